@@ -1,12 +1,12 @@
 -- The running value keeps to 16 bits, so the subtraction that inverts it at the end never stops short at 0.
 -- Assumes nothing.
-use Prim.Native.Nat.{ℕ, zero, suc, _*_, _%_, _<_}
+use Prim.Native.Nat.{ℕ, _*_, _%_, _<_}
 use mathlib.Core.Bool.{Bool, true, false, cond}
 use mathlib.Core.List.{List, [], _∷_}
 use native.Mathlib.Nat.{mod-lt}
 use lib.Dec.{leb, lit<}
 use lib.Bits.{bitXor, xor-lt}
-use Rattle.checksum.specs.Checksum.{shift, shifts, takes, run}
+use Rattle.checksum.specs.Crc.{shift, shifts, takes, crcFrom}
 
 shift-lt : (n : ℕ) → shift n < 65536
 unfolding shift
@@ -20,7 +20,7 @@ takes-lt : (n byte : ℕ) → takes n byte < 65536
 unfolding takes shifts
 takes-lt n byte = shift-lt (shifts 7 (bitXor n (byte * 256)))
 
-pub run-lt : (n : ℕ) (bytes : List ℕ) → n < 65536 → run n bytes < 65536
-unfolding run
-run-lt n [] h = h
-run-lt n (byte ∷ bytes) h = run-lt (takes n byte) bytes (takes-lt n byte)
+pub crc-lt : (n : ℕ) (bytes : List ℕ) → n < 65536 → crcFrom n bytes < 65536
+unfolding crcFrom
+crc-lt n [] h = h
+crc-lt n (byte ∷ bytes) h = crc-lt (takes n byte) bytes (takes-lt n byte)

@@ -1,7 +1,7 @@
-// The checksum of a flash block, over a run of bytes that begins anywhere in an image.
+// The checksum of a flash block, over a crcFrom of bytes that begins anywhere in an image.
 ghost use mathlib.Core.Path.{_≡_};
 ghost use Prim.Native.Nat.{_*_, _<_};
-ghost use Rattle.checksum.specs.Checksum as sum;
+ghost use Rattle.checksum.specs.Crc as sum;
 
 // One shift left, with 4129 added by exclusive or where the top bit falls out.
 fn shift(n: u16) -> u16

@@ -1,10 +1,10 @@
--- The checksum of a run of bytes, bit by bit: document 01, "Partition measures", the paragraph on the user block, which is
+-- The checksum of a crcFrom of bytes, bit by bit: document 01, "Partition measures", the paragraph on the user block, which is
 -- the routine of source 004. It starts at FFFF, takes each byte into the top half, shifts left eight times with 4129
 -- added by exclusive or where the top bit falls out, keeps 16 bits, and is inverted at the end.
 -- `bitXor` is the exclusive or of two numbers' binary digits, which is what `^` means in the code.
 -- Assumes nothing.
 use Prim.Native.Nat.{ℕ, zero, suc, _-_, _*_, _%_}
-use mathlib.Core.Bool.{Bool, cond}
+use mathlib.Core.Bool.{cond}
 use mathlib.Core.List.{List, [], _∷_}
 use lib.Bits.{bitXor}
 use lib.Dec.{leb}
@@ -21,10 +21,10 @@ shifts (suc k) n = shift (shifts k n)
 unfoldable pub takes : ℕ → ℕ → ℕ
 takes n byte = shifts 8 (bitXor n (byte * 256))
 
-unfoldable pub run : ℕ → List ℕ → ℕ
-run n [] = n
-run n (byte ∷ bytes) = run (takes n byte) bytes
+unfoldable pub crcFrom : ℕ → List ℕ → ℕ
+crcFrom n [] = n
+crcFrom n (byte ∷ bytes) = crcFrom (takes n byte) bytes
 
 -- "starts at FFFF .. and is inverted at the end"
 unfoldable pub checksumOf : List ℕ → ℕ
-checksumOf bytes = 65535 - run 65535 bytes
+checksumOf bytes = 65535 - crcFrom 65535 bytes

@@ -1,0 +1,5 @@
+pub mod Bools
+pub mod ListLaws
+pub mod SearchLaws
+pub mod WordLaws
+pub mod Distinct

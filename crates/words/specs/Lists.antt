@@ -1,0 +1,36 @@
+-- Plain functions on lists and on optional values.
+-- Assumes nothing.
+use Prim.Native.Nat.{ℕ, zero, suc}
+use mathlib.Core.Bool.{Bool, true, false, cond, _||_}
+use mathlib.Core.List.{List, [], _∷_, _++_}
+use mathlib.Core.Option.{Option, none, some}
+
+module _ {A : Type 0} where
+  -- The elements that pass the test, in order. (The library's `filter` takes a decision and no test.)
+  abbrev pub keep : (A → Bool) → List A → List A
+  keep p [] = []
+  keep p (x ∷ xs) = cond (p x) (x ∷ keep p xs) (keep p xs)
+
+  -- Some element passes the test.
+  abbrev pub anyOf : (A → Bool) → List A → Bool
+  anyOf p [] = false
+  anyOf p (x ∷ xs) = p x || anyOf p xs
+
+  -- The lists one after the other.
+  abbrev pub concat : List (List A) → List A
+  concat [] = []
+  concat (x ∷ xs) = x ++ concat xs
+
+  abbrev pub isSome : Option A → Bool
+  isSome none = false
+  isSome (some x) = true
+
+  -- The list of what is there: one element or none.
+  abbrev pub toList : Option A → List A
+  toList none = []
+  toList (some x) = x ∷ []
+
+-- The n numbers from k upwards.
+abbrev pub numbersFrom : ℕ → ℕ → List ℕ
+numbersFrom k zero = []
+numbersFrom k (suc n) = k ∷ numbersFrom (suc k) n
