@@ -1,0 +1,202 @@
+-- Demand 2, from the laws of saves and of answered calls. Assumes nothing.
+use Prim.Native.Nat.{ℕ, _≤_}
+use mathlib.Core.Path.{_≡_, refl, sym, ap, subst, _∙_}
+use mathlib.Core.Bool.{Bool, true, false, _||_, true≢false, false≢true}
+use mathlib.Core.List.{List, [], _∷_, _++_}
+use mathlib.Core.Option.{Option, none, some}
+use mathlib.Core.Logic.{_↔_, _≢_}
+use native.Mathlib.Omega.{arith}
+use native.Mathlib.Decide.{ℕ-discrete}
+use lib.Dec.{eqb}
+use lib.ListN.{length}
+use borrow.Author.Tests.{eq-eqb, ne-eqb}
+use Rattle.words.specs.Lists.{isSome, toList}
+use Rattle.flash_model.specs.Measures.{topNumber}
+use Rattle.flash_model.specs.UserBlock.{newBlock}
+use Rattle.flash_model.specs.Partition.{headerNumber, bitmapOf, allocated, row, refusal, Sound, contents}
+use Rattle.flash_model.specs.Update.{appendBlock, appended, holders, otherHolders, compacted, savedAt, saved, erased}
+use Rattle.flash_model.specs.Calls.{Call, Reply, changedSince, codeOf, changedImage, Answered}
+use Rattle.flash_model.specs.Calls.{PageCall.read, PageCall.save, WholeCall.check, WholeCall.report, WholeCall.nextLive, WholeCall.erase, Call.onPage, Call.onWhole}
+use Rattle.flash_model.specs.PageStore.{seen}
+use Rattle.flash_model.specs.Demands.{SavedAs, ErasedAs, LowestFreeBlank, AppendedAt, CompactedAs, ProperSave, namedBy, Looks, SaveDone, Demand2}
+use Rattle.flash_model.proofs.MeasureLaws.{legal-le, le-legal}
+use Rattle.flash_model.proofs.BitmapLaws.{free-bit}
+use Rattle.flash_model.proofs.BlockLaws.{new-length}
+use Rattle.flash_model.proofs.SoundLaws.{sound-measured}
+use Rattle.flash_model.proofs.AppendLaws.{bit-falls, bit-other, appended-block, bytes-below, bytes-above, appended-length}
+use Rattle.flash_model.proofs.CompactLaws.{compacted-as}
+use Rattle.flash_model.proofs.SaveLaws.{append-blank, blank-append, holders-writable, others-writable, erased-keeps, erased-contents, saved-keeps, saved-contents}
+use Rattle.flash_model.proofs.CallLaws.{answered-code, accepted-image, accepted-buffers, refused-image, refused-buffers, refused-values, first-refused, unrefused-sound, read-rows, save-rows, same-seen, seen-same}
+use Rattle.flash_model.proofs.MeaningLaws.{contents-length}
+
+refused-first : (image : List ℕ) (c : Call) → refusal image (namedBy c) ≢ 0 → codeOf image c ≡ refusal image (namedBy c)
+unfolding codeOf
+refused-first image (onPage (read partition n buffer)) h = first-refused (refusal image partition) _ h
+refused-first image (onPage (save partition n expected page)) h = first-refused (refusal image partition) _ h
+refused-first image (onWhole (check partition)) h = refl
+refused-first image (onWhole (report partition)) h = refl
+refused-first image (onWhole (nextLive partition start)) h = first-refused (refusal image partition) _ h
+refused-first image (onWhole (erase partition)) h = refl
+
+whole-accepted : (image : List ℕ) → Sound image
+    → (codeOf image (onWhole (check (headerNumber image))) ≡ 0)
+    × (codeOf image (onWhole (report (headerNumber image))) ≡ 0)
+    × (codeOf image (onWhole (erase (headerNumber image))) ≡ 0)
+unfolding codeOf
+whole-accepted image s = (s, s, s)
+
+looking-keeps : (image : List ℕ) (c : Call) (image′ : List ℕ) (answer : Reply) → Looks c → Answered image c image′ answer → image′ ≡ image
+looking-keeps image c image′ answer looks a = go (ℕ-discrete (answer .code) 0)
+  where
+    unchanged : (c : Call) → Looks c → changedImage image c ≡ image
+    unchanged (onPage (read partition n buffer)) l = refl
+    unchanged (onPage (save partition n expected page)) l = absurd l
+    unchanged (onWhole (check partition)) l = refl
+    unchanged (onWhole (report partition)) l = refl
+    unchanged (onWhole (nextLive partition start)) l = refl
+    unchanged (onWhole (erase partition)) l = absurd l
+
+    go : Dec (answer .code ≡ 0) → image′ ≡ image
+    go (yes e) = accepted-image image c image′ answer a e ∙ unchanged c looks
+    go (no n) = refused-image image c image′ answer a n
+
+read-gives : (image : List ℕ) (partition n : ℕ) (buffer image′ : List ℕ) (answer : Reply)
+    → Answered image (onPage (read partition n buffer)) image′ answer → answer .code ≡ 0
+    → (page : List ℕ) × (answer .buffers ≡ page ∷ []) × (contents image n ≡ some page) × (length page ≡ 60)
+read-gives image partition n buffer image′ answer a e =
+    let c = onPage (read partition n buffer) in
+    let r = read-rows image partition n buffer (sym (answered-code image c image′ answer a) ∙ e) in
+    go (contents image n) refl (r .there) (accepted-buffers image c image′ answer a e) (unrefused-sound image partition (r .unrefused-1-5))
+  where
+    go : (o : Option (List ℕ)) → contents image n ≡ o → isSome o ≡ true → answer .buffers ≡ toList (contents image n) → Sound image
+        → (page : List ℕ) × (answer .buffers ≡ page ∷ []) × (contents image n ≡ some page) × (length page ≡ 60)
+    go none q t b s = absurd (false≢true t)
+    go (some page) q t b s = (page, b ∙ ap toList q, q, contents-length image s n page q)
+
+-- ---- an accepted save
+
+module _ (image : List ℕ) (n : ℕ) (page image′ : List ℕ) (done : SaveDone image n page image′) where
+  abbrev call : Call
+  call = onPage (save (done .0) n (done .1) page)
+
+  no-refusal : codeOf image call ≡ 0
+  no-refusal = sym (answered-code image call image′ (done .2) (done .3)) ∙ done .4
+
+  is-sound : Sound image
+  is-sound = unrefused-sound image (done .0) (save-rows image (done .0) n (done .1) page no-refusal .unrefused-1-5)
+
+  legal : n ≤ topNumber (length image)
+  legal = legal-le (length image) n (save-rows image (done .0) n (done .1) page no-refusal .is-legal)
+
+  long : length page ≡ 60
+  long = save-rows image (done .0) n (done .1) page no-refusal .page-60
+
+  is-saved : image′ ≡ saved image n page
+  is-saved = accepted-image image call image′ (done .2) (done .3) (done .4)
+
+  save-keeps : SavedAs image n page image′
+  save-keeps =
+      let k = saved-keeps image is-sound n page legal long in
+      let contents-of = saved-contents image is-sound n page legal long in
+      rw is-saved (record {
+        saved-page = contents-of n ∙ rw (eq-eqb n n refl);
+        other-pages = λ m d. contents-of m ∙ rw (ne-eqb n m (λ e. d (sym e)));
+        partition = k;
+      })
+
+  save-appends : (k : ℕ) → LowestFreeBlank image k → AppendedAt image k (newBlock n page) image′
+  save-appends k b =
+      let new = newBlock n page in
+      let l = new-length n page long in
+      let m = sound-measured image is-sound in
+      rw (is-saved, way) (record {
+        is-written = appended-block image new k m (b .low) (b .high) l;
+        bit-was-1 = free-bit (bitmapOf image) k (unfold allocated in b .is-free);
+        bit-falls = bit-falls image new k m (b .low) (b .high) l (b .is-free);
+        other-bits = bit-other image new k m (b .low) (b .high) l;
+        bytes-below = bytes-below image new k m (b .low) (b .high) l;
+        bytes-above = bytes-above image new k m (b .low) (b .high) l;
+        same-length = appended-length image new k m (b .low) (b .high) l;
+      })
+    where
+      way : saved image n page ≡ appended image k (newBlock n page)
+      way = unfold saved in ap (savedAt image n page) (blank-append image k b)
+
+  save-compacts : ((k : ℕ) → LowestFreeBlank image k → ⊥) → CompactedAs image (otherHolders image n ++ newBlock n page ∷ []) image′
+  save-compacts none-blank = rw (is-saved, way (appendBlock image) refl) (go)
+    where
+      kept : List (List ℕ)
+      kept = otherHolders image n ++ newBlock n page ∷ []
+
+      way : (o : Option ℕ) → appendBlock image ≡ o → saved image n page ≡ compacted image (otherHolders image n ++ newBlock n page ∷ [])
+      way none e = unfold saved in ap (savedAt image n page) e
+      way (some k) e = absurd (none-blank k (append-blank image k e))
+
+      go : CompactedAs image (otherHolders image n ++ newBlock n page ∷ []) (compacted image (otherHolders image n ++ newBlock n page ∷ []))
+      go =
+          let w = others-writable image is-sound n page legal long in
+          compacted-as image (otherHolders image n ++ newBlock n page ∷ []) (sound-measured image is-sound) (w .room) (w .whole)
+
+-- ---- refused as changed
+
+module _ (image : List ℕ) (partition n : ℕ) (expected page : List ℕ) (p : ProperSave image partition n expected page) where
+  -- only the last row is left
+  last-row : codeOf image (onPage (save partition n expected page)) ≡ row 9 (changedSince image n expected) 0
+  unfolding codeOf
+  last-row =
+      let s : refusal image partition ≡ 0 = subst (λ (q : ℕ). refusal image q ≡ 0) (p .is-named) (p .is-sound) in
+      rw (s, le-legal (length image) n (p .in-range), p .page-length, right-length (ℕ-discrete (length expected) 0))
+    where
+      right-length : Dec (length expected ≡ 0) → (eqb (length expected) 0 || eqb (length expected) 60) ≡ true
+      right-length (yes e) = rw e
+      right-length (no d) = rw (p .expected-length d)
+
+  long-contents : (q : List ℕ) → contents image n ≡ some q → length q ≡ 60
+  long-contents q e = contents-length image (p .is-sound) n q e
+
+  rows : (t : Bool) → changedSince image n expected ≡ t
+      → ((codeOf image (onPage (save partition n expected page)) ≡ 9) ↔ (seen expected ≢ contents image n))
+      × ((codeOf image (onPage (save partition n expected page)) ≡ 0) ↔ (seen expected ≡ contents image n))
+  unfolding changedSince
+  rows true e =
+      let nine : codeOf image (onPage (save partition n expected page)) ≡ 9 = last-row ∙ rw e in
+      let no-longer : seen expected ≢ contents image n = λ q. true≢false (sym e ∙ seen-same (contents image n) long-contents expected q) in
+      ((λ c. no-longer, λ d. nine), (λ c. absurd (omega (arith, nine, c)), λ q. absurd (no-longer q)))
+  rows false e =
+      let zero-code : codeOf image (onPage (save partition n expected page)) ≡ 0 = last-row ∙ rw e in
+      let still : seen expected ≡ contents image n = same-seen (contents image n) long-contents expected e in
+      ((λ c. absurd (omega (arith, zero-code, c)), λ d. absurd (d still)), (λ c. still, λ q. zero-code))
+
+-- ---- an accepted erase
+
+erase-keeps : (image : List ℕ) (partition : ℕ) (image′ : List ℕ) (answer : Reply)
+    → Answered image (onWhole (erase partition)) image′ answer → answer .code ≡ 0
+    → ErasedAs image image′ × CompactedAs image (holders image) image′
+erase-keeps image partition image′ answer a e =
+    let c = onWhole (erase partition) in
+    let s : Sound image = unrefused-sound image partition (unfold codeOf in sym (answered-code image c image′ answer a) ∙ e) in
+    let k = erased-keeps image s in
+    let w = holders-writable image s in
+    rw (accepted-image image c image′ answer a e) (
+      record {
+        all-pages = erased-contents image s;
+        partition = k;
+      },
+      unfold erased in compacted-as image (holders image) (sound-measured image s) (w .room) (w .whole),
+    )
+
+pub demand2 : Demand2
+demand2 = record {
+  refused-first = refused-first;
+  whole-accepted = whole-accepted;
+  refusal-keeps = λ image c image′ answer a n.
+      (refused-image image c image′ answer a n, refused-buffers image c image′ answer a n, refused-values image c image′ answer a n);
+  looking-keeps = looking-keeps;
+  read-gives = read-gives;
+  save-keeps = save-keeps;
+  save-appends = λ image n page image′ k done b. save-appends image n page image′ done k b;
+  save-compacts = save-compacts;
+  refused-as-changed = λ image partition n expected page p. rows image partition n expected page p (changedSince image n expected) refl .0;
+  accepted-unchanged = λ image partition n expected page p. rows image partition n expected page p (changedSince image n expected) refl .1;
+  erase-keeps = erase-keeps;
+}

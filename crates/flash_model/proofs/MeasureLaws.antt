@@ -1,0 +1,62 @@
+-- The measures of a legal length. Assumes nothing.
+use Prim.Native.Nat.{ℕ, suc, _+_, _*_, _%_, _≤_, _<_}
+use mathlib.Core.Path.{_≡_, refl, ap, _∙_}
+use mathlib.Core.Bool.{Bool, true, false, not, _&&_, _||_, false≢true}
+use mathlib.Core.List.{List, [], _∷_}
+use native.Mathlib.Omega.{arith}
+use lib.Dec.{eqb, leb}
+use borrow.Author.Tests.{eqb-true, leb-true, le-leb, lt-leb, not-false}
+use Rattle.words.specs.Lists.{anyOf}
+use Rattle.words.proofs.Bools.{and-true-left, and-true-right, or-false-left, or-false-right}
+use Rattle.flash_model.specs.Measures.{sizes, legalSize, blocks, bitmapBlocks, firstBitmap, capacity, topNumber, legalNumber}
+
+pub record Measured (size : ℕ) : Type 0 where
+  pub first-bitmap : firstBitmap size ≡ suc (capacity size)
+  pub top-number : suc (topNumber size) ≡ capacity size
+  pub whole : size ≡ (suc (capacity size) + bitmapBlocks size) * 64
+  pub bits-enough : capacity size ≤ bitmapBlocks size * 512
+  pub two-bytes : capacity size ≤ 65536
+
+-- any whole number of blocks from 16,384 to 1,048,576 bytes
+fitting : ℕ → Bool
+fitting size = eqb (size % 64) 0 && (leb 16384 size && leb size 1048576)
+
+measured-of : (size : ℕ) → fitting size ≡ true → Measured size
+unfolding fitting capacity firstBitmap blocks bitmapBlocks topNumber
+measured-of size e =
+    let a : size % 64 ≡ 0 = eqb-true (size % 64) 0 (and-true-left (eqb (size % 64) 0) (leb 16384 size && leb size 1048576) e) in
+    let f = and-true-right (eqb (size % 64) 0) (leb 16384 size && leb size 1048576) e in
+    let b : 16384 ≤ size = leb-true 16384 size (and-true-left (leb 16384 size) (leb size 1048576) f) in
+    let c : size ≤ 1048576 = leb-true size 1048576 (and-true-right (leb 16384 size) (leb size 1048576) f) in
+    record { first-bitmap = omega arith; top-number = omega arith; whole = omega arith; bits-enough = omega arith; two-bytes = omega arith }
+
+-- each length of the table is such a number: computed over the table
+every-fits : (l : List ℕ) → anyOf (λ x. not (fitting x)) l ≡ false → (size : ℕ) → anyOf (eqb size) l ≡ true → fitting size ≡ true
+every-fits [] e size h = absurd (false≢true h)
+every-fits (x ∷ l) e size h =
+    go (every-fits l (or-false-right (not (fitting x)) (anyOf (λ x. not (fitting x)) l) e) size) (eqb size x) refl h
+  where
+    here : fitting x ≡ true
+    here = not-false (fitting x) (or-false-left (not (fitting x)) (anyOf (λ x. not (fitting x)) l) e)
+
+    go : (anyOf (eqb size) l ≡ true → fitting size ≡ true) → (t : Bool) → eqb size x ≡ t → (t || anyOf (eqb size) l) ≡ true → fitting size ≡ true
+    go ih true q h = ap fitting (eqb-true size x q) ∙ here
+    go ih false q h = ih h
+
+pub measured : (size : ℕ) → legalSize size ≡ true → Measured size
+unfolding legalSize sizes fitting
+measured size h = measured-of size (every-fits sizes refl size h)
+
+-- ---- legal numbers are those below the capacity
+
+pub legal-le : (size n : ℕ) → legalNumber size n ≡ true → n ≤ topNumber size
+unfolding legalNumber
+legal-le size n e = leb-true n (topNumber size) e
+
+pub le-legal : (size n : ℕ) → n ≤ topNumber size → legalNumber size n ≡ true
+unfolding legalNumber
+le-legal size n h = le-leb n (topNumber size) h
+
+pub above-illegal : (size n : ℕ) → topNumber size < n → legalNumber size n ≡ false
+unfolding legalNumber
+above-illegal size n h = lt-leb n (topNumber size) h

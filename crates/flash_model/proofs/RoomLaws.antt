@@ -1,0 +1,107 @@
+-- The holders have different legal numbers: they are as many as the live numbers, and without one of these there is room
+-- for a new block. Assumes nothing.
+use Prim.Native.Nat.{ℕ, zero, suc, _≤_, _<_}
+use mathlib.Core.Path.{_≡_, refl, sym, ap, _∙_}
+use mathlib.Core.Bool.{Bool, true, false, not, cond}
+use mathlib.Core.List.{List, [], _∷_, map}
+use mathlib.Core.Option.{Option, none, some, Option·map, Option·some-injective}
+use native.Mathlib.Omega.{arith}
+use lib.Dec.{eqb}
+use lib.ListN.{length, length-map}
+use borrow.Author.Tests.{ne-eqb}
+use Rattle.words.specs.Lists.{keep, isSome, numbersFrom}
+use Rattle.words.proofs.ListLaws.{All, all-mono, all-map, keep-passes, keep-map, any-map}
+use Rattle.words.proofs.SearchLaws.{lastWith, last-any}
+use Rattle.words.proofs.Distinct.{has, Distinct, except, room-for, count-has}
+use Rattle.flash_model.specs.Measures.{capacity, topNumber, userBlocks, logicalNumbers}
+use Rattle.flash_model.specs.UserBlock.{number, payload}
+use Rattle.flash_model.specs.Partition.{blockAt, holder, contents, live}
+use Rattle.flash_model.specs.Update.{isHolder, holders, otherHolders}
+use Rattle.flash_model.proofs.MeasureLaws.{Measured, legal-le}
+use Rattle.flash_model.proofs.SequenceLaws.{keep-length}
+use Rattle.flash_model.proofs.HolderLaws.{HolderAt, is-holder-at, hasNumber, holders-last}
+
+module _ (image : List ℕ) where
+  -- the numbers of the holders among the n blocks from k on
+  numbersOf : ℕ → ℕ → List ℕ
+  numbersOf k n = map number (map (blockAt image) (keep (isHolder image) (numbersFrom k n)))
+
+  not-again : (j : ℕ) → isHolder image j ≡ true → (k n : ℕ) → j < k → has (number (blockAt image j)) (numbersOf k n) ≡ false
+  unfolding numbersOf
+  not-again j e k zero h = refl
+  not-again j e k (suc n) h = go (not-again j e (suc k) n (omega arith)) (isHolder image k) refl
+    where
+      apart : isHolder image k ≡ true → number (blockAt image k) ≡ number (blockAt image j) → ⊥
+      apart f q =
+          let a = is-holder-at image j e .is-holder in
+          let b = is-holder-at image k f .is-holder in
+          let d : j ≡ k = Option·some-injective j k (sym a ∙ ap (holder image) (sym q) ∙ b) in
+          omega (arith, d, h)
+
+      go : has (number (blockAt image j)) (map number (map (blockAt image) (keep (isHolder image) (numbersFrom (suc k) n)))) ≡ false
+          → (t : Bool) → isHolder image k ≡ t
+          → has (number (blockAt image j)) (map number (map (blockAt image) (cond t (k ∷ keep (isHolder image) (numbersFrom (suc k) n)) (keep (isHolder image) (numbersFrom (suc k) n))))) ≡ false
+      go ih true f = rw (ne-eqb (number (blockAt image k)) (number (blockAt image j)) (apart f), ih)
+      go ih false f = ih
+
+  all-distinct : (k n : ℕ) → Distinct (numbersOf k n)
+  unfolding numbersOf
+  all-distinct k zero = tt
+  all-distinct k (suc n) = go (all-distinct (suc k) n) (isHolder image k) refl
+    where
+      go : Distinct (map number (map (blockAt image) (keep (isHolder image) (numbersFrom (suc k) n)))) → (t : Bool) → isHolder image k ≡ t
+          → Distinct (map number (map (blockAt image) (cond t (k ∷ keep (isHolder image) (numbersFrom (suc k) n)) (keep (isHolder image) (numbersFrom (suc k) n)))))
+      go ih true e = (not-again k e (suc k) n (omega arith), ih)
+      go ih false e = ih
+
+  distinct-numbers : Distinct (map number (holders image))
+  unfolding holders userBlocks numbersOf
+  distinct-numbers = all-distinct 1 (capacity (length image))
+
+  -- what holds of every holder's block
+  pub all-holders : (P : List ℕ → Type 0) → ((k : ℕ) → HolderAt image k → P (blockAt image k)) → All P (holders image)
+  unfolding holders
+  all-holders P f =
+      all-map (blockAt image) P (keep (isHolder image) (userBlocks (length image)))
+      (all-mono (λ k. isHolder image k ≡ true) (λ k. P (blockAt image k)) (λ k e. f k (is-holder-at image k e))
+      (keep (isHolder image) (userBlocks (length image))) (keep-passes (isHolder image) (userBlocks (length image))))
+
+  pub holders-room : length (holders image) ≤ capacity (length image)
+  unfolding holders userBlocks
+  holders-room =
+      let l = keep (isHolder image) (numbersFrom 1 (capacity (length image))) in
+      omega (arith, length-map l (blockAt image), keep-length (isHolder image) 1 (capacity (length image)))
+
+  module _ (m : Measured (length image)) where
+    numbers-below : All (λ x. x < capacity (length image)) (map number (holders image))
+    numbers-below =
+        all-map number (λ x. x < capacity (length image)) (holders image)
+        (all-holders (λ b. number b < capacity (length image))
+        (λ k h. omega (arith, legal-le (length image) (number (blockAt image k)) (h .legal), m .top-number)))
+
+    pub others-fit : (n : ℕ) → n ≤ topNumber (length image) → suc (length (otherHolders image n)) ≤ capacity (length image)
+    unfolding otherHolders
+    others-fit n h =
+        let e : length (otherHolders image n) ≡ length (except n (map number (holders image))) =
+        sym (length-map (otherHolders image n) number) ∙ ap length (keep-map number (λ x. not (eqb x n)) (holders image)) in
+        omega (arith, e, room-for (capacity (length image)) n (map number (holders image)) (omega (arith, h, m .top-number)) distinct-numbers numbers-below)
+
+    pub live-holders : live image ≡ length (holders image)
+    unfolding live logicalNumbers
+    live-holders =
+        ap length (keep-same (numbersFrom 0 (capacity (length image))))
+        ∙ count-has (capacity (length image)) (map number (holders image)) distinct-numbers numbers-below
+        ∙ length-map (holders image) number
+      where
+        some-map : (o : Option (List ℕ)) → isSome (Option·map payload o) ≡ isSome o
+        some-map none = refl
+        some-map (some b) = refl
+
+        live-has : (n : ℕ) → isSome (contents image n) ≡ has n (map number (holders image))
+        live-has n =
+            ap isSome (sym (holders-last image n)) ∙ some-map (lastWith (hasNumber n) (holders image))
+            ∙ last-any (hasNumber n) (holders image) ∙ sym (any-map number (λ x. eqb x n) (holders image))
+
+        keep-same : (l : List ℕ) → keep (λ n. isSome (contents image n)) l ≡ keep (λ n. has n (map number (holders image))) l
+        keep-same [] = refl
+        keep-same (x ∷ l) = rw (live-has x, keep-same l)

@@ -1,0 +1,227 @@
+-- Demands 2 and 3 (document 00) as facts about the definitions, in plain logic.
+-- Assumes nothing.
+use Prim.Native.Nat.{ℕ, suc, _+_, _*_, _≤_, _<_}
+use mathlib.Core.Path.{_≡_}
+use mathlib.Core.Bool.{Bool, true, false}
+use mathlib.Core.List.{List, [], _∷_, _++_, map}
+use mathlib.Core.Option.{none, some}
+use mathlib.Core.Logic.{_↔_, _≢_, _⊎_}
+use lib.ListN.{length, getD, take, replicate}
+use Rattle.words.specs.Words.{sameBytes}
+use Rattle.flash_model.specs.Measures.{legalSize, bitmapBlocks, firstBitmap, capacity, topNumber}
+use Rattle.flash_model.specs.Bitmap.{bitByte, bitWeight, bitOf}
+use Rattle.flash_model.specs.UserBlock.{number, payload, rightChecksum, newBlock}
+use Rattle.flash_model.specs.Partition.{blockAt, magic, headerNumber, version, bitmapOf, allocated, refusal, Sound, contents, live, used, lowestLive}
+use Rattle.flash_model.specs.Update.{holders, otherHolders}
+use Rattle.flash_model.specs.Calls.{Call, Reply, codeOf, buffersOf, Answered}
+use Rattle.flash_model.specs.Calls.{PageCall.read, PageCall.save, WholeCall.check, WholeCall.report, WholeCall.nextLive, WholeCall.erase, Call.onPage, Call.onWhole}
+use Rattle.flash_model.specs.PageStore.{seen, ownedPages, storeReplies, storeFinal}
+use Rattle.flash_model.specs.Runs.{Step, Chain, final, ownedCalls, ownedAnswers, Item, stepsOf, callsInBoth, answersInBoth, WellMarked}
+
+-- ---- what the definitions mean: document 01, "Partition measures"
+
+-- Sound: refusals 1 to 5 don't apply.
+pub record SoundMeans (image : List ℕ) : Type 0 where
+  pub legal-size : legalSize (length image) ≡ true
+  pub right-magic : take 16 image ≡ magic
+  pub right-version : version image ≤ 1
+  pub in-sequence : (j k : ℕ) → 1 ≤ j → j < k → k ≤ capacity (length image) → allocated image k ≡ true → allocated image j ≡ true
+
+-- User block k is allocated, has the number and a right checksum.
+pub record HoldsAt (image : List ℕ) (n k : ℕ) : Type 0 where
+  pub low : 1 ≤ k
+  pub high : k ≤ capacity (length image)
+  pub is-allocated : allocated image k ≡ true
+  pub has-number : number (blockAt image k) ≡ n
+  pub is-right : rightChecksum (blockAt image k) ≡ true
+
+-- The page is the contents of a number: "the payload of the highest allocated user block with that number and a right
+-- checksum", the number not above M-2.
+pub record HighestHolds (image : List ℕ) (n : ℕ) (page : List ℕ) : Type 0 where
+  pub in-range : n ≤ topNumber (length image)
+  pub at : ℕ
+  pub here : HoldsAt image n at
+  pub none-above : (k : ℕ) → at < k → HoldsAt image n k → ⊥
+  pub page-is : page ≡ payload (blockAt image at)
+
+-- The number is live, not below the start, and none between is.
+pub record LowestLive (image : List ℕ) (start n : ℕ) : Type 0 where
+  pub not-below : start ≤ n
+  pub is-live : contents image n ≢ none
+  pub none-between : (m : ℕ) → start ≤ m → m < n → contents image m ≡ none
+
+pub record Meanings : Type 0 where
+  pub sound-means : (image : List ℕ) → Sound image ↔ SoundMeans image
+  pub refused-not : (image : List ℕ) (partition : ℕ) → (refusal image partition ≡ 0) ↔ (Sound image × (headerNumber image ≡ partition))
+  pub contents-are : (image : List ℕ) (n : ℕ) (page : List ℕ) → (contents image n ≡ some page) ↔ HighestHolds image n page
+  pub page-length : (image : List ℕ) (n : ℕ) (page : List ℕ) → Sound image → contents image n ≡ some page → length page ≡ 60
+  pub used-are : (image : List ℕ) → Sound image → (k : ℕ) → 1 ≤ k → k ≤ capacity (length image) → (allocated image k ≡ true) ↔ (k ≤ used image)
+  pub live-are : (image : List ℕ) → Sound image → live image ≡ length (holders image)
+  pub next-live : (image : List ℕ) (start n : ℕ) → Sound image → (lowestLive image start ≡ some n) ↔ LowestLive image start n
+  pub same-bytes : (a b : List ℕ) → (sameBytes a b ≡ true) ↔ (a ≡ b)
+
+-- ---- demand 2
+
+-- Still a sound partition of the same length and header block.
+pub record Keeps (image image′ : List ℕ) : Type 0 where
+  pub still-sound : Sound image′
+  pub same-length : length image′ ≡ length image
+  pub same-header : take 64 image′ ≡ take 64 image
+
+-- The number's page is the new one, every other number's as before.
+pub record SavedAs (image : List ℕ) (n : ℕ) (page image′ : List ℕ) : Type 0 where
+  pub saved-page : contents image′ n ≡ some page
+  pub other-pages : (m : ℕ) → m ≢ n → contents image′ m ≡ contents image m
+  pub partition : Keeps image image′
+
+-- Every number's page is as before.
+pub record ErasedAs (image image′ : List ℕ) : Type 0 where
+  pub all-pages : (m : ℕ) → contents image′ m ≡ contents image m
+  pub partition : Keeps image image′
+
+-- "a free user block exists and the lowest free one holds 64 bytes of FF": block k.
+pub record LowestFreeBlank (image : List ℕ) (k : ℕ) : Type 0 where
+  pub low : 1 ≤ k
+  pub high : k ≤ capacity (length image)
+  pub is-free : allocated image k ≡ false
+  pub lower-allocated : (j : ℕ) → 1 ≤ j → j < k → allocated image j ≡ true
+  pub is-blank : blockAt image k ≡ replicate 64 255
+
+-- Document 01's short way, at block k: "No other byte changes and no bit goes from 0 to 1."
+pub record AppendedAt (image : List ℕ) (k : ℕ) (new image′ : List ℕ) : Type 0 where
+  pub is-written : blockAt image′ k ≡ new
+  pub bit-was-1 : bitOf (bitmapOf image) k ≡ 1
+  pub bit-falls : getD image′ (firstBitmap (length image) * 64 + bitByte k) 0 + bitWeight k ≡ getD image (firstBitmap (length image) * 64 + bitByte k) 0
+  pub other-bits : (j : ℕ) → 1 ≤ j → j ≢ k → bitOf (bitmapOf image′) j ≡ bitOf (bitmapOf image) j
+  pub bytes-below : (i : ℕ) → i < k * 64 → getD image′ i 0 ≡ getD image i 0
+  pub bytes-above : (i : ℕ) → k * 64 + 64 ≤ i → i ≢ firstBitmap (length image) * 64 + bitByte k → getD image′ i 0 ≡ getD image i 0
+  pub same-length : length image′ ≡ length image
+
+-- Document 01's long way with these blocks: "at 1, 2, 3 and on .. all else FF except the bitmap bits of the blocks so filled".
+pub record CompactedAs (image : List ℕ) (kept : List (List ℕ)) (image′ : List ℕ) : Type 0 where
+  pub has-room : length kept ≤ capacity (length image)
+  pub same-header : take 64 image′ ≡ take 64 image
+  pub blocks-are : (i : ℕ) → i < length kept → blockAt image′ (suc i) ≡ getD kept i []
+  pub rest-blank : (i : ℕ) → 64 * suc (length kept) ≤ i → i < firstBitmap (length image) * 64 → getD image′ i 0 ≡ 255
+  pub bits-cleared : (k : ℕ) → 1 ≤ k → k ≤ length kept → bitOf (bitmapOf image′) k ≡ 0
+  pub bits-set : (k : ℕ) → length kept < k → k ≤ bitmapBlocks (length image) * 512 → bitOf (bitmapOf image′) k ≡ 1
+  pub same-length : length image′ ≡ length image
+
+-- A save that names the partition's number, with a number in range and buffers of the right length.
+pub record ProperSave (image : List ℕ) (partition n : ℕ) (expected page : List ℕ) : Type 0 where
+  pub is-sound : Sound image
+  pub is-named : headerNumber image ≡ partition
+  pub in-range : n ≤ topNumber (length image)
+  pub page-length : length page ≡ 60
+  pub expected-length : (length expected ≢ 0) → length expected ≡ 60
+
+-- The partition number that a call names.
+abbrev pub namedBy : Call → ℕ
+namedBy (onPage (read partition n buffer)) = partition
+namedBy (onPage (save partition n expected page)) = partition
+namedBy (onWhole (check partition)) = partition
+namedBy (onWhole (report partition)) = partition
+namedBy (onWhole (nextLive partition start)) = partition
+namedBy (onWhole (erase partition)) = partition
+
+-- The calls that only look.
+abbrev pub Looks : Call → Type 0
+Looks (onPage (read partition n buffer)) = Unit {0}
+Looks (onPage (save partition n expected page)) = ⊥
+Looks (onWhole (check partition)) = Unit {0}
+Looks (onWhole (report partition)) = Unit {0}
+Looks (onWhole (nextLive partition start)) = Unit {0}
+Looks (onWhole (erase partition)) = ⊥
+
+-- An accepted save that left image′.
+abbrev pub SaveDone : List ℕ → ℕ → List ℕ → List ℕ → Type 0
+SaveDone image n page image′ =
+    (partition : ℕ) × (expected : List ℕ) × (answer : Reply)
+    × Answered image (onPage (save partition n expected page)) image′ answer × (answer .code ≡ 0)
+
+pub record Demand2 : Type 0 where
+  -- "1 to 5" come before all others; a sound partition named rightly is refused none of them
+  pub refused-first : (image : List ℕ) (c : Call) → refusal image (namedBy c) ≢ 0 → codeOf image c ≡ refusal image (namedBy c)
+  pub whole-accepted : (image : List ℕ) → Sound image
+      → (codeOf image (onWhole (check (headerNumber image))) ≡ 0)
+      × (codeOf image (onWhole (report (headerNumber image))) ≡ 0)
+      × (codeOf image (onWhole (erase (headerNumber image))) ≡ 0)
+  -- a refusal leaves the image and every buffer as they were, and hands nothing back
+  pub refusal-keeps : (image : List ℕ) (c : Call) (image′ : List ℕ) (answer : Reply) → Answered image c image′ answer
+      → answer .code ≢ 0 → (image′ ≡ image) × (answer .buffers ≡ buffersOf c) × (answer .values ≡ [])
+  pub looking-keeps : (image : List ℕ) (c : Call) (image′ : List ℕ) (answer : Reply) → Looks c → Answered image c image′ answer → image′ ≡ image
+  -- a read that is accepted leaves the contents in its buffer
+  pub read-gives : (image : List ℕ) (partition n : ℕ) (buffer image′ : List ℕ) (answer : Reply)
+      → Answered image (onPage (read partition n buffer)) image′ answer → answer .code ≡ 0
+      → (page : List ℕ) × (answer .buffers ≡ page ∷ []) × (contents image n ≡ some page) × (length page ≡ 60)
+  pub save-keeps : (image : List ℕ) (n : ℕ) (page image′ : List ℕ) → SaveDone image n page image′ → SavedAs image n page image′
+  -- it is an append exactly where that can be had, and a compaction otherwise
+  pub save-appends : (image : List ℕ) (n : ℕ) (page image′ : List ℕ) (k : ℕ)
+      → SaveDone image n page image′ → LowestFreeBlank image k → AppendedAt image k (newBlock n page) image′
+  pub save-compacts : (image : List ℕ) (n : ℕ) (page image′ : List ℕ)
+      → SaveDone image n page image′ → ((k : ℕ) → LowestFreeBlank image k → ⊥)
+      → CompactedAs image (otherHolders image n ++ newBlock n page ∷ []) image′
+  -- "In an otherwise proper save, it is refused as changed exactly when that is no longer so", and else accepted
+  pub refused-as-changed : (image : List ℕ) (partition n : ℕ) (expected page : List ℕ) → ProperSave image partition n expected page
+      → (codeOf image (onPage (save partition n expected page)) ≡ 9) ↔ (seen expected ≢ contents image n)
+  pub accepted-unchanged : (image : List ℕ) (partition n : ℕ) (expected page : List ℕ) → ProperSave image partition n expected page
+      → (codeOf image (onPage (save partition n expected page)) ≡ 0) ↔ (seen expected ≡ contents image n)
+  pub erase-keeps : (image : List ℕ) (partition : ℕ) (image′ : List ℕ) (answer : Reply)
+      → Answered image (onWhole (erase partition)) image′ answer → answer .code ≡ 0
+      → ErasedAs image image′ × CompactedAs image (holders image) image′
+
+-- ---- demand 3
+
+-- A run against the page store fed with the calls on owned numbers.
+pub record RunsAsStore (owned : ℕ → Bool) (image : List ℕ) (steps : List Step) : Type 0 where
+  pub answers : ownedAnswers owned steps
+      ≡ storeReplies (length image) (headerNumber image) (ownedPages owned image) (ownedCalls owned steps)
+  pub pages : (n : ℕ) → owned n ≡ true → contents (final image steps) n
+      ≡ storeFinal (length image) (headerNumber image) (ownedPages owned image) (ownedCalls owned steps) n
+  pub ends-sound : Sound (final image steps)
+  pub same-length : length (final image steps) ≡ length image
+  pub same-number : headerNumber (final image steps) ≡ headerNumber image
+
+-- Two runs with the same calls on owned numbers. What else they read of these, they too get from the store.
+pub record SameForOwned (owned : ℕ → Bool) (s t : List ℕ) (xs ys : List Item) : Type 0 where
+  pub answers : answersInBoth xs ≡ answersInBoth ys
+  pub pages : (n : ℕ) → owned n ≡ true → contents (final s (stepsOf xs)) n ≡ contents (final t (stepsOf ys)) n
+  pub one : RunsAsStore owned s (stepsOf xs)
+  pub other : RunsAsStore owned t (stepsOf ys)
+
+pub record Demand3 : Type 0 where
+  pub runs-as-store : (owned : ℕ → Bool) (image : List ℕ) (steps : List Step)
+      → Sound image → Chain image steps → RunsAsStore owned image steps
+  pub two-runs : (owned : ℕ → Bool) (s t : List ℕ) (xs ys : List Item)
+      → Sound s → Sound t → length s ≡ length t → headerNumber s ≡ headerNumber t
+      → ((n : ℕ) → owned n ≡ true → contents s n ≡ contents t n)
+      → Chain s (stepsOf xs) → Chain t (stepsOf ys) → WellMarked owned xs → WellMarked owned ys → callsInBoth xs ≡ callsInBoth ys
+      → SameForOwned owned s t xs ys
+  pub never-refused : (image : List ℕ) (n : ℕ) (expected page image′ : List ℕ) (answer : Reply)
+      → Sound image → n ≤ topNumber (length image) → length page ≡ 60 → seen expected ≡ contents image n
+      → Answered image (onPage (save (headerNumber image) n expected page)) image′ answer
+      → (answer .code ≡ 0) × (contents image′ n ≡ some page)
+
+-- ---- these are about something
+
+-- Every element is a byte.
+abbrev pub Bytes : List ℕ → Type 0
+Bytes [] = Unit {0}
+Bytes (x ∷ xs) = (x < 256) × Bytes xs
+
+-- An image in a machine's memory that is a sound partition of this length and number.
+pub record Witness (size partition : ℕ) (image : List ℕ) : Type 0 where
+  pub are-bytes : Bytes image
+  pub has-length : length image ≡ size
+  pub not-refused : refusal image partition ≡ 0
+
+pub record NotVacuous : Type 0 where
+  pub three-sizes : (size : ℕ) → (legalSize size ≡ true) ↔ ((size ≡ 16384) ⊎ ((size ≡ 32768) ⊎ (size ≡ 65536)))
+  -- with nothing live, where a save appends, and with every number live, where it compacts
+  pub empty : (size partition : ℕ) → legalSize size ≡ true → partition < 256
+      → (image : List ℕ) × Witness size partition image × (used image ≡ 0) × ((n : ℕ) → contents image n ≡ none) × LowestFreeBlank image 1
+  pub full : (size partition : ℕ) (page : List ℕ) → legalSize size ≡ true → partition < 256 → Bytes page → length page ≡ 60
+      → (image : List ℕ) × Witness size partition image × (used image ≡ capacity size)
+      × ((n : ℕ) → n ≤ topNumber size → contents image n ≡ some page)
+  -- any list of calls can be made, so every chain theorem has its chains
+  pub chains : (image : List ℕ) (calls : List Call) → (steps : List Step) × (map (λ s. s .made) steps ≡ calls) × Chain image steps

@@ -1,0 +1,10 @@
+pub mod Measures
+pub mod Bitmap
+pub mod UserBlock
+pub mod Partition
+pub mod Update
+pub mod Calls
+pub mod PageStore
+pub mod Runs
+pub mod Demands
+pub mod Examples

@@ -1,0 +1,1 @@
+// What a system flash partition means: definitions in specs/, theorems about them in proofs/. No code.

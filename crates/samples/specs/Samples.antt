@@ -1,0 +1,71 @@
+-- Document 01, "Samples from the bench": what a definition gives, and what the bench has, in one table, and one theorem over
+-- all of it, which antt computes.
+-- Assumes nothing.
+use Prim.Native.Nat.{ℕ}
+use mathlib.Core.Path.{_≡_, refl}
+use mathlib.Core.Bool.{Bool, true, false}
+use mathlib.Core.List.{List, [], _∷_, _++_, map}
+use lib.ListN.{replicate, set}
+use Rattle.words.specs.Lists.{toList}
+use Rattle.words.specs.Words.{word, wordBytes}
+use Rattle.checksum.specs.Crc.{shift, shifts, takes, crcFrom, checksumOf}
+use Rattle.flash_model.specs.Measures.{sizes, legalSize, blocks, bitmapBlocks, firstBitmap, capacity, topNumber}
+use Rattle.flash_model.specs.Bitmap.{bitByte, bitPlace, bitWeight, bitOf, allocatedIn, outOfSequence, lowestFreeIn, cleared, firstCleared}
+use Rattle.flash_model.specs.UserBlock.{number, payload, rightChecksum, newBlock}
+use Rattle.flash_model.specs.Partition.{magic, headerNumber, version, bitmapOf, refusal}
+
+pub record Sample : Type 0 where
+  pub defined : List ℕ
+  pub given : List ℕ
+
+abbrev pub sample : List ℕ → List ℕ → Sample
+sample d g = record { defined = d; given = g }
+
+-- 1 for yes.
+abbrev pub bit : Bool → ℕ
+bit true = 1
+bit false = 0
+
+-- A row of the table of measures: a legal length, its blocks, bitmap blocks, M, capacity and top logical number.
+abbrev pub measures : ℕ → List ℕ
+measures size = bit (legalSize size) ∷ blocks size ∷ bitmapBlocks size ∷ firstBitmap size ∷ capacity size ∷ topNumber size ∷ []
+
+-- Partition 2, version 1, of 16,384 bytes, with this first bitmap byte and no block written.
+unfoldable pub unwritten : ℕ → List ℕ
+unwritten byte = magic ++ 2 ∷ 1 ∷ replicate 16302 255 ++ byte ∷ replicate 63 255
+
+-- A page, and the user block that tests/vectors/block.py makes of it for number 292.
+unfoldable pub page292 : List ℕ
+page292 =
+    3 ∷ 10 ∷ 17 ∷ 24 ∷ 31 ∷ 38 ∷ 45 ∷ 52 ∷ 59 ∷ 66 ∷ 73 ∷ 80 ∷ 87 ∷ 94 ∷ 101 ∷ 108 ∷ 115 ∷ 122 ∷ 129 ∷ 136
+    ∷ 143 ∷ 150 ∷ 157 ∷ 164 ∷ 171 ∷ 178 ∷ 185 ∷ 192 ∷ 199 ∷ 206 ∷ 213 ∷ 220 ∷ 227 ∷ 234 ∷ 241 ∷ 248 ∷ 255 ∷ 6 ∷ 13 ∷ 20
+    ∷ 27 ∷ 34 ∷ 41 ∷ 48 ∷ 55 ∷ 62 ∷ 69 ∷ 76 ∷ 83 ∷ 90 ∷ 97 ∷ 104 ∷ 111 ∷ 118 ∷ 125 ∷ 132 ∷ 139 ∷ 146 ∷ 153 ∷ 160 ∷ []
+
+unfoldable pub block292 : List ℕ
+block292 = 36 ∷ 1 ∷ page292 ++ 196 ∷ 71 ∷ []
+
+unfoldable pub samples : List Sample
+samples =
+    -- (a) (b) (c)
+    sample (checksumOf [] ∷ []) (0x0000 ∷ [])
+    ∷ sample (checksumOf (0xFF ∷ []) ∷ []) (0x00FF ∷ [])
+    ∷ sample (checksumOf (0xFF ∷ 0xFF ∷ []) ∷ []) (0xFFFF ∷ [])
+    -- (d) (e) (f)
+    ∷ sample (measures 16384) (1 ∷ 256 ∷ 1 ∷ 255 ∷ 254 ∷ 253 ∷ [])
+    ∷ sample (measures 32768) (1 ∷ 512 ∷ 1 ∷ 511 ∷ 510 ∷ 509 ∷ [])
+    ∷ sample (measures 65536) (1 ∷ 1024 ∷ 2 ∷ 1022 ∷ 1021 ∷ 1020 ∷ [])
+    -- (g) (h)
+    ∷ sample (firstCleared (0xFF ∷ 0xFF ∷ []) 9) (0x00 ∷ 0x7F ∷ [])
+    ∷ sample (toList (lowestFreeIn (0x00 ∷ 0x7F ∷ []) 16)) (10 ∷ [])
+    -- (i), beside the same image with a bitmap that is in sequence
+    ∷ sample (refusal (unwritten 0xBF) 2 ∷ []) (5 ∷ [])
+    ∷ sample (refusal (unwritten 0x7F) 2 ∷ []) (0 ∷ [])
+    -- a whole block from an outside program: made, read, and with one bit off
+    ∷ sample (newBlock 292 page292) block292
+    ∷ sample (number block292 ∷ bit (rightChecksum block292) ∷ payload block292) (292 ∷ 1 ∷ page292)
+    ∷ sample (bit (rightChecksum (set block292 2 2)) ∷ []) (0 ∷ [])
+    ∷ []
+
+pub samples-hold : map (λ (s : Sample). s .defined) samples ≡ map (λ (s : Sample). s .given) samples
+unfolding samples unwritten page292 block292 checksumOf crcFrom takes shifts shift sizes legalSize blocks bitmapBlocks firstBitmap capacity topNumber bitByte bitPlace bitWeight bitOf allocatedIn outOfSequence lowestFreeIn cleared firstCleared number payload rightChecksum newBlock word wordBytes magic headerNumber version bitmapOf refusal
+samples-hold = refl
