@@ -1,4 +1,4 @@
--- The checksum of a crcFrom of bytes, bit by bit: document 01, "Partition measures", the paragraph on the user block, which is
+-- The checksum of a run of bytes, bit by bit: document 01, "Partition measures", the paragraph on the user block, which is
 -- the routine of source 004. It starts at FFFF, takes each byte into the top half, shifts left eight times with 4129
 -- added by exclusive or where the top bit falls out, keeps 16 bits, and is inverted at the end.
 -- `bitXor` is the exclusive or of two numbers' binary digits, which is what `^` means in the code.

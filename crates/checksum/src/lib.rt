@@ -1,4 +1,4 @@
-// The checksum of a flash block, over a crcFrom of bytes that begins anywhere in an image.
+// The checksum of a flash block, over a run of bytes that begins anywhere in an image.
 ghost use mathlib.Core.Path.{_≡_};
 ghost use Prim.Native.Nat.{_*_, _<_};
 ghost use Rattle.checksum.specs.Crc as sum;

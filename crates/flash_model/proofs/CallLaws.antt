@@ -17,7 +17,7 @@ use Rattle.flash_model.specs.Measures.{legalNumber}
 use Rattle.flash_model.specs.Partition.{row, refusal, Sound, contents}
 use Rattle.flash_model.specs.Calls.{Call, Reply, first, differs, changedSince, codeOf, accepted, valuesOf, buffersOf, filledBuffers, changedImage, replyTo, after, Answered}
 use Rattle.flash_model.specs.Calls.{PageCall.read, PageCall.save, Call.onPage}
-use Rattle.flash_model.specs.PageStore.{seen}
+use Rattle.flash_model.specs.PageStore.{expectedPage}
 use Rattle.flash_model.proofs.SoundLaws.{unrefused, tested-sound, row-passed, row-rest}
 
 -- ---- an answered call
@@ -38,6 +38,10 @@ module _ (image : List ℕ) (c : Call) (image′ : List ℕ) (answer : Reply) (a
   pub accepted-image : answer .code ≡ 0 → image′ ≡ changedImage image c
   unfolding after
   accepted-image e = a .image-is ∙ ap (λ (t : Bool). cond t (changedImage image c) image) (is-accepted e)
+
+  pub accepted-values : answer .code ≡ 0 → answer .values ≡ valuesOf image c
+  unfolding replyTo
+  accepted-values e = ap (λ (r : Reply). r .values) (a .answer-is) ∙ ap (λ (t : Bool). cond t (valuesOf image c) []) (is-accepted e)
 
   pub accepted-buffers : answer .code ≡ 0 → answer .buffers ≡ filledBuffers image c
   unfolding replyTo
@@ -114,10 +118,10 @@ save-rows image partition n expected page e =
 
 -- the bytes compared, and what they stand for
 module _ (kept : Option (List ℕ)) (long : (page : List ℕ) → kept ≡ some page → length page ≡ 60) where
-  pub same-seen : (expected : List ℕ) → differs kept expected ≡ false → seen expected ≡ kept
+  pub same-seen : (expected : List ℕ) → differs kept expected ≡ false → expectedPage expected ≡ kept
   same-seen expected d = go kept long expected d
     where
-      go : (o : Option (List ℕ)) → ((page : List ℕ) → o ≡ some page → length page ≡ 60) → (expected : List ℕ) → differs o expected ≡ false → seen expected ≡ o
+      go : (o : Option (List ℕ)) → ((page : List ℕ) → o ≡ some page → length page ≡ 60) → (expected : List ℕ) → differs o expected ≡ false → expectedPage expected ≡ o
       go none l [] d = refl
       go none l (x ∷ xs) d = absurd (omega (arith, eqb-true (suc (length xs)) 0 (not-false (eqb (suc (length xs)) 0) d)))
       go (some page) l [] d =
@@ -125,9 +129,9 @@ module _ (kept : Option (List ℕ)) (long : (page : List ℕ) → kept ≡ some 
           absurd (omega (arith, l page refl, ap length e))
       go (some page) l (x ∷ xs) d = ap (λ (p : List ℕ). some p) (sym (same-eq page (x ∷ xs) (not-false (sameBytes page (x ∷ xs)) d)))
 
-  pub seen-same : (expected : List ℕ) → seen expected ≡ kept → differs kept expected ≡ false
+  pub seen-same : (expected : List ℕ) → expectedPage expected ≡ kept → differs kept expected ≡ false
   seen-same expected d = subst (λ (o : Option (List ℕ)). differs o expected ≡ false) d (go expected)
     where
-      go : (expected : List ℕ) → differs (seen expected) expected ≡ false
+      go : (expected : List ℕ) → differs (expectedPage expected) expected ≡ false
       go [] = refl
       go (x ∷ xs) = rw (same-refl (x ∷ xs))

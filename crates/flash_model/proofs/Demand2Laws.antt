@@ -1,7 +1,7 @@
 -- Demand 2, from the laws of saves and of answered calls. Assumes nothing.
 use Prim.Native.Nat.{ℕ, _≤_}
 use mathlib.Core.Path.{_≡_, refl, sym, ap, subst, _∙_}
-use mathlib.Core.Bool.{Bool, true, false, _||_, true≢false, false≢true}
+use mathlib.Core.Bool.{Bool, true, false, not, _||_, true≢false, false≢true}
 use mathlib.Core.List.{List, [], _∷_, _++_}
 use mathlib.Core.Option.{Option, none, some}
 use mathlib.Core.Logic.{_↔_, _≢_}
@@ -11,23 +11,23 @@ use lib.Dec.{eqb}
 use lib.ListN.{length}
 use borrow.Author.Tests.{eq-eqb, ne-eqb}
 use Rattle.words.specs.Lists.{isSome, toList}
-use Rattle.flash_model.specs.Measures.{topNumber}
+use Rattle.flash_model.specs.Measures.{capacity, topNumber}
 use Rattle.flash_model.specs.UserBlock.{newBlock}
-use Rattle.flash_model.specs.Partition.{headerNumber, bitmapOf, allocated, row, refusal, Sound, contents}
+use Rattle.flash_model.specs.Partition.{headerNumber, version, bitmapOf, allocated, row, refusal, Sound, contents, live, used, lowestLive}
 use Rattle.flash_model.specs.Update.{appendBlock, appended, holders, otherHolders, compacted, savedAt, saved, erased}
-use Rattle.flash_model.specs.Calls.{Call, Reply, changedSince, codeOf, changedImage, Answered}
+use Rattle.flash_model.specs.Calls.{Call, Reply, first, changedSince, codeOf, changedImage, Answered}
 use Rattle.flash_model.specs.Calls.{PageCall.read, PageCall.save, WholeCall.check, WholeCall.report, WholeCall.nextLive, WholeCall.erase, Call.onPage, Call.onWhole}
-use Rattle.flash_model.specs.PageStore.{seen}
-use Rattle.flash_model.specs.Demands.{SavedAs, ErasedAs, LowestFreeBlank, AppendedAt, CompactedAs, ProperSave, namedBy, Looks, SaveDone, Demand2}
+use Rattle.flash_model.specs.PageStore.{expectedPage}
+use Rattle.flash_model.specs.Demands.{NextLiveIs, SavedAs, ErasedAs, LowestFreeBlank, AppendedAt, CompactedAs, ProperSave, namedBy, ReadOnly, SaveDone, Demand2}
 use Rattle.flash_model.proofs.MeasureLaws.{legal-le, le-legal}
 use Rattle.flash_model.proofs.BitmapLaws.{free-bit}
 use Rattle.flash_model.proofs.BlockLaws.{new-length}
-use Rattle.flash_model.proofs.SoundLaws.{sound-measured}
+use Rattle.flash_model.proofs.SoundLaws.{sound-measured, row-passed}
 use Rattle.flash_model.proofs.AppendLaws.{bit-falls, bit-other, appended-block, bytes-below, bytes-above, appended-length}
 use Rattle.flash_model.proofs.CompactLaws.{compacted-as}
 use Rattle.flash_model.proofs.SaveLaws.{append-blank, blank-append, holders-writable, others-writable, erased-keeps, erased-contents, saved-keeps, saved-contents}
-use Rattle.flash_model.proofs.CallLaws.{answered-code, accepted-image, accepted-buffers, refused-image, refused-buffers, refused-values, first-refused, unrefused-sound, read-rows, save-rows, same-seen, seen-same}
-use Rattle.flash_model.proofs.MeaningLaws.{contents-length}
+use Rattle.flash_model.proofs.CallLaws.{answered-code, accepted-image, accepted-values, accepted-buffers, refused-image, refused-buffers, refused-values, first-zero, first-refused, unrefused-sound, read-rows, save-rows, same-seen, seen-same}
+use Rattle.flash_model.proofs.MeaningLaws.{contents-length, next-live, none-live}
 
 refused-first : (image : List ℕ) (c : Call) → refusal image (namedBy c) ≢ 0 → codeOf image c ≡ refusal image (namedBy c)
 unfolding codeOf
@@ -45,10 +45,10 @@ whole-accepted : (image : List ℕ) → Sound image
 unfolding codeOf
 whole-accepted image s = (s, s, s)
 
-looking-keeps : (image : List ℕ) (c : Call) (image′ : List ℕ) (answer : Reply) → Looks c → Answered image c image′ answer → image′ ≡ image
-looking-keeps image c image′ answer looks a = go (ℕ-discrete (answer .code) 0)
+read-only-keeps : (image : List ℕ) (c : Call) (image′ : List ℕ) (answer : Reply) → ReadOnly c → Answered image c image′ answer → image′ ≡ image
+read-only-keeps image c image′ answer looks a = go (ℕ-discrete (answer .code) 0)
   where
-    unchanged : (c : Call) → Looks c → changedImage image c ≡ image
+    unchanged : (c : Call) → ReadOnly c → changedImage image c ≡ image
     unchanged (onPage (read partition n buffer)) l = refl
     unchanged (onPage (save partition n expected page)) l = absurd l
     unchanged (onWhole (check partition)) l = refl
@@ -59,6 +59,35 @@ looking-keeps image c image′ answer looks a = go (ℕ-discrete (answer .code) 
     go : Dec (answer .code ≡ 0) → image′ ≡ image
     go (yes e) = accepted-image image c image′ answer a e ∙ unchanged c looks
     go (no n) = refused-image image c image′ answer a n
+
+report-gives : (image : List ℕ) (partition : ℕ) (image′ : List ℕ) (answer : Reply)
+    → Answered image (onWhole (report partition)) image′ answer → answer .code ≡ 0
+    → answer .values ≡ version image ∷ capacity (length image) ∷ used image ∷ live image ∷ []
+report-gives image partition image′ answer a e = accepted-values image (onWhole (report partition)) image′ answer a e
+
+next-live-gives : (image : List ℕ) (partition start : ℕ) (image′ : List ℕ) (answer : Reply)
+    → Answered image (onWhole (nextLive partition start)) image′ answer → answer .code ≡ 0
+    → (n : ℕ) × (answer .values ≡ n ∷ []) × NextLiveIs image start n
+unfolding codeOf
+next-live-gives image partition start image′ answer a e =
+    let c = onWhole (nextLive partition start) in
+    let z = first-zero (refusal image partition) (row 7 (not (isSome (lowestLive image start))) 0) (sym (answered-code image c image′ answer a) ∙ e) in
+    go (lowestLive image start) refl (row-passed 6 0 (not (isSome (lowestLive image start))) (z .1)) (accepted-values image c image′ answer a e) (unrefused-sound image partition (z .0))
+  where
+    go : (o : Option ℕ) → lowestLive image start ≡ o → not (isSome o) ≡ false → answer .values ≡ toList (lowestLive image start) → Sound image
+        → (n : ℕ) × (answer .values ≡ n ∷ []) × NextLiveIs image start n
+    go none q t v s = absurd (true≢false t)
+    go (some n) q t v s = (n, v ∙ ap toList q, next-live image start n s .0 q)
+
+next-live-none : (image : List ℕ) (start : ℕ) → Sound image → codeOf image (onWhole (nextLive (headerNumber image) start)) ≢ 0
+    → (codeOf image (onWhole (nextLive (headerNumber image) start)) ≡ 7) × ((n : ℕ) → start ≤ n → contents image n ≡ none)
+unfolding codeOf
+next-live-none image start s refused = go (lowestLive image start) refl
+  where
+    go : (o : Option ℕ) → lowestLive image start ≡ o
+        → (first (refusal image (headerNumber image)) (row 7 (not (isSome (lowestLive image start))) 0) ≡ 7) × ((n : ℕ) → start ≤ n → contents image n ≡ none)
+    go none q = (rw (s, q), none-live image start s q)
+    go (some n) q = absurd (refused (rw (s, q)))
 
 read-gives : (image : List ℕ) (partition n : ℕ) (buffer image′ : List ℕ) (answer : Reply)
     → Answered image (onPage (read partition n buffer)) image′ answer → answer .code ≡ 0
@@ -76,11 +105,11 @@ read-gives image partition n buffer image′ answer a e =
 -- ---- an accepted save
 
 module _ (image : List ℕ) (n : ℕ) (page image′ : List ℕ) (done : SaveDone image n page image′) where
-  abbrev call : Call
-  call = onPage (save (done .0) n (done .1) page)
+  abbrev it : Call
+  it = onPage (save (done .0) n (done .1) page)
 
-  no-refusal : codeOf image call ≡ 0
-  no-refusal = sym (answered-code image call image′ (done .2) (done .3)) ∙ done .4
+  no-refusal : codeOf image it ≡ 0
+  no-refusal = sym (answered-code image it image′ (done .2) (done .3)) ∙ done .4
 
   is-sound : Sound image
   is-sound = unrefused-sound image (done .0) (save-rows image (done .0) n (done .1) page no-refusal .unrefused-1-5)
@@ -92,7 +121,7 @@ module _ (image : List ℕ) (n : ℕ) (page image′ : List ℕ) (done : SaveDon
   long = save-rows image (done .0) n (done .1) page no-refusal .page-60
 
   is-saved : image′ ≡ saved image n page
-  is-saved = accepted-image image call image′ (done .2) (done .3) (done .4)
+  is-saved = accepted-image image it image′ (done .2) (done .3) (done .4)
 
   save-keeps : SavedAs image n page image′
   save-keeps =
@@ -101,7 +130,7 @@ module _ (image : List ℕ) (n : ℕ) (page image′ : List ℕ) (done : SaveDon
       rw is-saved (record {
         saved-page = contents-of n ∙ rw (eq-eqb n n refl);
         other-pages = λ m d. contents-of m ∙ rw (ne-eqb n m (λ e. d (sym e)));
-        partition = k;
+        keeps-rest = k;
       })
 
   save-appends : (k : ℕ) → LowestFreeBlank image k → AppendedAt image k (newBlock n page) image′
@@ -155,16 +184,16 @@ module _ (image : List ℕ) (partition n : ℕ) (expected page : List ℕ) (p : 
   long-contents q e = contents-length image (p .is-sound) n q e
 
   rows : (t : Bool) → changedSince image n expected ≡ t
-      → ((codeOf image (onPage (save partition n expected page)) ≡ 9) ↔ (seen expected ≢ contents image n))
-      × ((codeOf image (onPage (save partition n expected page)) ≡ 0) ↔ (seen expected ≡ contents image n))
+      → ((codeOf image (onPage (save partition n expected page)) ≡ 9) ↔ (expectedPage expected ≢ contents image n))
+      × ((codeOf image (onPage (save partition n expected page)) ≡ 0) ↔ (expectedPage expected ≡ contents image n))
   unfolding changedSince
   rows true e =
       let nine : codeOf image (onPage (save partition n expected page)) ≡ 9 = last-row ∙ rw e in
-      let no-longer : seen expected ≢ contents image n = λ q. true≢false (sym e ∙ seen-same (contents image n) long-contents expected q) in
+      let no-longer : expectedPage expected ≢ contents image n = λ q. true≢false (sym e ∙ seen-same (contents image n) long-contents expected q) in
       ((λ c. no-longer, λ d. nine), (λ c. absurd (omega (arith, nine, c)), λ q. absurd (no-longer q)))
   rows false e =
       let zero-code : codeOf image (onPage (save partition n expected page)) ≡ 0 = last-row ∙ rw e in
-      let still : seen expected ≡ contents image n = same-seen (contents image n) long-contents expected e in
+      let still : expectedPage expected ≡ contents image n = same-seen (contents image n) long-contents expected e in
       ((λ c. absurd (omega (arith, zero-code, c)), λ d. absurd (d still)), (λ c. still, λ q. zero-code))
 
 -- ---- an accepted erase
@@ -180,7 +209,7 @@ erase-keeps image partition image′ answer a e =
     rw (accepted-image image c image′ answer a e) (
       record {
         all-pages = erased-contents image s;
-        partition = k;
+        keeps-rest = k;
       },
       unfold erased in compacted-as image (holders image) (sound-measured image s) (w .room) (w .whole),
     )
@@ -191,7 +220,10 @@ demand2 = record {
   whole-accepted = whole-accepted;
   refusal-keeps = λ image c image′ answer a n.
       (refused-image image c image′ answer a n, refused-buffers image c image′ answer a n, refused-values image c image′ answer a n);
-  looking-keeps = looking-keeps;
+  read-only-keeps = read-only-keeps;
+  report-gives = report-gives;
+  next-live-gives = next-live-gives;
+  next-live-none = next-live-none;
   read-gives = read-gives;
   save-keeps = save-keeps;
   save-appends = λ image n page image′ k done b. save-appends image n page image′ done k b;

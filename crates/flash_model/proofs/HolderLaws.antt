@@ -1,8 +1,8 @@
 -- Where the contents of a number are, and what they are, from the list of the allocated blocks. Assumes nothing.
-use Prim.Native.Nat.{ℕ, _≤_, _<_}
-use mathlib.Core.Path.{_≡_, refl, sym, ap, _∙_}
+use Prim.Native.Nat.{ℕ, zero, suc, _≤_, _<_}
+use mathlib.Core.Path.{_≡_, refl, sym, ap, subst, _∙_}
 use mathlib.Core.Bool.{Bool, true, false, not, cond, _&&_, and-false, true≢false, false≢true}
-use mathlib.Core.List.{List, map}
+use mathlib.Core.List.{List, _∷_, map}
 use mathlib.Core.Option.{Option, none, some, Option·map, map-eq-some-iff}
 use mathlib.Core.Logic.{_↔_}
 use native.Mathlib.Omega.{arith}
@@ -12,12 +12,12 @@ use borrow.Author.Tests.{eqb-true, eq-eqb, ne-eqb, le-leb, lt-leb}
 use Rattle.words.specs.Lists.{keep, numbersFrom}
 use Rattle.words.specs.Search.{highest}
 use Rattle.words.proofs.Bools.{and-true-left, and-true-right}
-use Rattle.words.proofs.SearchLaws.{Highest, highest-some, highest-is, highest-nothing, highest-same, highest-above, highest-last, lastWith, last-map, last-keep, last-same}
+use Rattle.words.proofs.SearchLaws.{IsHighest, highest-some, highest-is, highest-nothing, highest-same, highest-above, highest-last, lastWith, last-map, last-keep, last-same, in-kept, kept-in}
 use Rattle.flash_model.specs.Measures.{capacity, userBlocks, legalNumber}
 use Rattle.flash_model.specs.UserBlock.{number, payload, rightChecksum}
 use Rattle.flash_model.specs.Partition.{blockAt, allocated, holds, holder, contents}
 use Rattle.flash_model.specs.Update.{isAt, isHolder, holders, otherHolders}
-use Rattle.flash_model.specs.Demands.{HoldsAt, HighestHolds}
+use Rattle.flash_model.specs.Demands.{HoldsAt, HighestHolds, Rising, HoldersAt}
 use Rattle.flash_model.proofs.MeasureLaws.{legal-le, le-legal}
 use Rattle.flash_model.proofs.SequenceLaws.{UpTo}
 
@@ -47,7 +47,7 @@ module _ (image : List ℕ) (n : ℕ) where
   -- a holder: the number is legal, and it is the highest block that holds it
   pub record Held (k : ℕ) : Type 0 where
     pub legal : legalNumber (length image) n ≡ true
-    pub highest-one : Highest (holds image n) (capacity (length image)) k
+    pub highest-one : IsHighest (holds image n) (capacity (length image)) k
 
   pub holder-held : (k : ℕ) → holder image n ≡ some k → Held k
   unfolding holder
@@ -64,37 +64,39 @@ module _ (image : List ℕ) (n : ℕ) where
   pub held-at : (k : ℕ) → Held k → HoldsAt image n k
   held-at k h = holds-at image n k (h .highest-one .low) (h .highest-one .high) (h .highest-one .passes)
 
-  contents-highest : (page : List ℕ) → contents image n ≡ some page → HighestHolds image n page
-  unfolding contents
-  contents-highest page e =
-      let (k, f, g) = map-eq-some-iff (λ k. payload (blockAt image k)) (holder image n) .0 e in
-      let h = holder-held k f in
-      record {
-        in-range = legal-le (length image) n (h .legal);
-        at = k;
-        here = held-at k h;
-        none-above = λ j a b. true≢false (sym (at-holds image n j b) ∙ h .highest-one .none-above j a (b .high));
-        page-is = sym g;
-      }
+  held-highest : (k : ℕ) → Held k → HighestHolds image n (payload (blockAt image k))
+  held-highest k h = record {
+    in-range = legal-le (length image) n (h .legal);
+    at = k;
+    here = held-at k h;
+    none-above = λ j a b. true≢false (sym (at-holds image n j b) ∙ h .highest-one .none-above j a (b .high));
+    page-is = refl;
+  }
 
-  highest-contents : (page : List ℕ) → HighestHolds image n page → contents image n ≡ some page
-  unfolding contents
-  highest-contents page h =
-      let k = h .at in
-      let held : Held k = record {
-        legal = le-legal (length image) n (h .in-range);
-        highest-one = record {
-          low = h .here .low;
-          high = h .here .high;
-          passes = at-holds image n k (h .here);
-          none-above = λ j a b. not-held j a b (holds image n j) refl;
-        };
-      } in
-      rw (held-holder k held) (ap (λ (p : List ℕ). some p) (sym (h .page-is)))
+  highest-held : (page : List ℕ) (h : HighestHolds image n page) → Held (h .at)
+  highest-held page h = record {
+    legal = le-legal (length image) n (h .in-range);
+    highest-one = record {
+      low = h .here .low;
+      high = h .here .high;
+      passes = at-holds image n (h .at) (h .here);
+      none-above = λ j a b. not-held j a b (holds image n j) refl;
+    };
+  }
     where
       not-held : (j : ℕ) → h .at < j → j ≤ capacity (length image) → (t : Bool) → holds image n j ≡ t → t ≡ false
       not-held j a b true e = absurd (h .none-above j a (holds-at image n j (omega arith) b e))
       not-held j a b false e = refl
+
+  contents-highest : (page : List ℕ) → contents image n ≡ some page → HighestHolds image n page
+  unfolding contents
+  contents-highest page e =
+      let (k, f, g) = map-eq-some-iff (λ k. payload (blockAt image k)) (holder image n) .0 e in
+      subst (HighestHolds image n) g (held-highest k (holder-held k f))
+
+  highest-contents : (page : List ℕ) → HighestHolds image n page → contents image n ≡ some page
+  unfolding contents
+  highest-contents page h = rw (held-holder (h .at) (highest-held page h)) (ap (λ (p : List ℕ). some p) (sym (h .page-is)))
 
   pub contents-are : (page : List ℕ) → (contents image n ≡ some page) ↔ HighestHolds image n page
   contents-are page = (contents-highest page, highest-contents page)
@@ -154,6 +156,39 @@ module _ (image : List ℕ) where
       let f = place-eq (holder image n) k e in
       let h = holder-held image n k f in
       record { here = held-at image n k h; legal = h .legal; is-holder = f }
+
+  -- the blocks that hold contents, in rising order
+  rising-kept : (q : ℕ → Bool) (low k n : ℕ) → low < k → Rising low (keep q (numbersFrom k n))
+  rising-kept q low k zero h = tt
+  rising-kept q low k (suc n) h = go (rising-kept q k (suc k) n (omega arith)) (rising-kept q low (suc k) n (omega arith)) (q k)
+    where
+      go : Rising k (keep q (numbersFrom (suc k) n)) → Rising low (keep q (numbersFrom (suc k) n)) → (t : Bool)
+          → Rising low (cond t (k ∷ keep q (numbersFrom (suc k) n)) (keep q (numbersFrom (suc k) n)))
+      go above same true = (h, above)
+      go above same false = same
+
+  holds-contents : (k : ℕ) → isHolder image k ≡ true → (n : ℕ) × (page : List ℕ) × (h : HighestHolds image n page) × (h .at ≡ k)
+  unfolding held-highest
+  holds-contents k e =
+      let n = number (blockAt image k) in
+      (n, payload (blockAt image k), held-highest image n k (holder-held image n k (is-holder-at k e .is-holder)), refl)
+
+  contents-held : (k : ℕ) → (n : ℕ) × (page : List ℕ) × (h : HighestHolds image n page) × (h .at ≡ k)
+      → (1 ≤ k) × (k ≤ capacity (length image)) × (isHolder image k ≡ true)
+  unfolding isHolder
+  contents-held k (n, page, h, e) = subst (λ (j : ℕ). (1 ≤ j) × (j ≤ capacity (length image)) × (isAt (holder image (number (blockAt image j))) j ≡ true)) e
+      (h .here .low, h .here .high, rw (h .here .has-number, held-holder image n (h .at) (highest-held image n page h)) (eq-eqb (h .at) (h .at) refl))
+
+  pub holders-at : HoldersAt image (keep (isHolder image) (userBlocks (length image)))
+  unfolding holders userBlocks
+  holders-at = record {
+    blocks-are = refl;
+    in-order = rising-kept (isHolder image) 0 1 (capacity (length image)) (omega arith);
+    each-holds = λ k. (
+      λ e. holds-contents k (in-kept (isHolder image) k 1 (capacity (length image)) e .2),
+      λ h. let b = contents-held k h in kept-in (isHolder image) k 1 (capacity (length image)) (b .0) (omega (arith, b .1)) (b .2),
+    );
+  }
 
   -- the holder of a number, among those of all numbers
   holder-of : (n : ℕ) → highest (λ k. isHolder image k && hasNumber n (blockAt image k)) (capacity (length image)) ≡ holder image n

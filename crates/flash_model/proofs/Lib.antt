@@ -11,6 +11,7 @@ pub mod CompactLaws
 pub mod RoomLaws
 pub mod SaveLaws
 pub mod CallLaws
+pub mod RefusalLaws
 pub mod MeaningLaws
 pub mod Demand2Laws
 pub mod StoreLaws

@@ -8,18 +8,23 @@ use mathlib.Core.Logic.{_↔_, _≢_}
 use native.Mathlib.Omega.{arith}
 use native.Mathlib.Decide.{decLe}
 use lib.Dec.{leb}
-use lib.ListN.{length}
-use borrow.Author.Tests.{leb-true, le-leb, lt-leb}
-use Rattle.words.specs.Lists.{isSome}
+use lib.ListN.{length, take}
+use borrow.Author.Tests.{eqb-true, eq-eqb, leb-true, le-leb, lt-leb}
+use Rattle.words.specs.Lists.{isSome, keep}
+use Rattle.words.specs.Words.{word}
+use Rattle.checksum.specs.Crc.{checksumOf}
 use Rattle.words.proofs.Bools.{and-true-left, and-true-right}
 use Rattle.words.proofs.WordLaws.{same-eq, eq-same}
-use Rattle.words.proofs.SearchLaws.{lowest-some, lowest-is}
-use Rattle.flash_model.specs.Measures.{capacity}
+use Rattle.words.proofs.SearchLaws.{lowest-some, lowest-is, lowest-none}
+use Rattle.flash_model.specs.Measures.{capacity, userBlocks}
+use Rattle.flash_model.specs.UserBlock.{rightChecksum}
+use Rattle.flash_model.specs.Update.{isHolder}
 use Rattle.flash_model.specs.Partition.{blockAt, headerNumber, allocated, refusal, Sound, contents, used, lowestLive}
-use Rattle.flash_model.specs.Demands.{LowestLive, Meanings}
+use Rattle.flash_model.specs.Demands.{NextLiveIs, Meanings}
 use Rattle.flash_model.proofs.BlockLaws.{payload-length}
-use Rattle.flash_model.proofs.SoundLaws.{named, sound-measured, allocated-used, sound-means}
-use Rattle.flash_model.proofs.HolderLaws.{contents-are}
+use Rattle.flash_model.proofs.SoundLaws.{named, sound-measured, used-most, allocated-used, sound-means}
+use Rattle.flash_model.proofs.HolderLaws.{contents-are, holders-at}
+use Rattle.flash_model.proofs.RefusalLaws.{refusals-mean}
 use Rattle.flash_model.proofs.ImageLaws.{block-length}
 use Rattle.flash_model.proofs.RoomLaws.{live-holders}
 use Rattle.flash_model.proofs.CallLaws.{unrefused-sound}
@@ -36,6 +41,10 @@ contents-length image s n page e =
 used-are : (image : List ℕ) → Sound image → (k : ℕ) → 1 ≤ k → k ≤ capacity (length image) → (allocated image k ≡ true) ↔ (k ≤ used image)
 used-are image s k lo hi =
     (λ e. leb-true k (used image) (sym (allocated-used image s k lo hi) ∙ e), λ h. allocated-used image s k lo hi ∙ le-leb k (used image) h)
+
+right-checksum : (block : List ℕ) → (rightChecksum block ≡ true) ↔ (word block 62 ≡ checksumOf (take 62 block))
+unfolding rightChecksum
+right-checksum block = (eqb-true (word block 62) (checksumOf (take 62 block)), eq-eqb (word block 62) (checksumOf (take 62 block)))
 
 -- ---- the next live number
 
@@ -61,14 +70,25 @@ live-low image s n l = go (contents image n) refl
 abbrev passes : List ℕ → ℕ → ℕ → Bool
 passes image start m = leb start m && isSome (contents image m)
 
-next-live : (image : List ℕ) (start n : ℕ) → Sound image → (lowestLive image start ≡ some n) ↔ LowestLive image start n
+pub none-live : (image : List ℕ) (start : ℕ) → Sound image → lowestLive image start ≡ none → (n : ℕ) → start ≤ n → contents image n ≡ none
+unfolding lowestLive
+none-live image start s e n h = go (contents image n) refl
+  where
+    go : (o : Option (List ℕ)) → contents image n ≡ o → o ≡ none
+    go none q = refl
+    go (some page) q =
+        let low = live-low image s n (λ d. some-there (some page) refl (sym q ∙ d)) in
+        let f = lowest-none (passes image start) 0 (capacity (length image)) e n (omega arith) (omega (arith, low)) in
+        absurd (true≢false (sym (rw (le-leb start n h, q)) ∙ f))
+
+pub next-live : (image : List ℕ) (start n : ℕ) → Sound image → (lowestLive image start ≡ some n) ↔ NextLiveIs image start n
 unfolding lowestLive
 next-live image start n s = (found, is)
   where
     between : (m : ℕ) → start ≤ m → passes image start m ≡ false → contents image m ≡ none
     between m a e = none-there (contents image m) (rw (le-leb start m a) at e)
 
-    found : lowestLive image start ≡ some n → LowestLive image start n
+    found : lowestLive image start ≡ some n → NextLiveIs image start n
     found e =
         let l = lowest-some (passes image start) 0 (capacity (length image)) n e in
         record {
@@ -77,11 +97,11 @@ next-live image start n s = (found, is)
           none-between = λ m a b. between m a (l .none-below m (omega arith) b);
         }
 
-    below : LowestLive image start n → (m : ℕ) → m < n → Dec (start ≤ m) → passes image start m ≡ false
+    below : NextLiveIs image start n → (m : ℕ) → m < n → Dec (start ≤ m) → passes image start m ≡ false
     below l m b (yes a) = rw (l .none-between m a b, le-leb start m a)
     below l m b (no a) = rw (lt-leb start m (omega (arith, a)))
 
-    is : LowestLive image start n → lowestLive image start ≡ some n
+    is : NextLiveIs image start n → lowestLive image start ≡ some n
     is l =
         lowest-is (passes image start) 0 (capacity (length image)) n (record {
           low = omega arith;
@@ -92,11 +112,15 @@ next-live image start n s = (found, is)
 
 pub meanings : Meanings
 meanings = record {
+  refusals-mean = refusals-mean;
   sound-means = sound-means;
   refused-not = refused-not;
   contents-are = contents-are;
   page-length = λ image n page s e. contents-length image s n page e;
+  right-checksum = right-checksum;
+  used-most = used-most;
   used-are = used-are;
+  holders-are = λ image. (keep (isHolder image) (userBlocks (length image)), holders-at image);
   live-are = λ image s. live-holders image (sound-measured image s);
   next-live = next-live;
   same-bytes = λ a b. (same-eq a b, eq-same a b);

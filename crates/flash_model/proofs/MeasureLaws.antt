@@ -1,11 +1,12 @@
 -- The measures of a legal length. Assumes nothing.
 use Prim.Native.Nat.{ℕ, suc, _+_, _*_, _%_, _≤_, _<_}
-use mathlib.Core.Path.{_≡_, refl, ap, _∙_}
+use mathlib.Core.Path.{_≡_, refl, sym, ap, _∙_}
 use mathlib.Core.Bool.{Bool, true, false, not, _&&_, _||_, false≢true}
 use mathlib.Core.List.{List, [], _∷_}
 use native.Mathlib.Omega.{arith}
-use lib.Dec.{eqb, leb}
-use borrow.Author.Tests.{eqb-true, leb-true, le-leb, lt-leb, not-false}
+use native.Mathlib.Decide.{decLe}
+use lib.Dec.{eqb, leb, ltb}
+use borrow.Author.Tests.{eqb-true, leb-true, le-leb, lt-leb, lt-ltb, le-ltb, not-false}
 use Rattle.words.specs.Lists.{anyOf}
 use Rattle.words.proofs.Bools.{and-true-left, and-true-right, or-false-left, or-false-right}
 use Rattle.flash_model.specs.Measures.{sizes, legalSize, blocks, bitmapBlocks, firstBitmap, capacity, topNumber, legalNumber}
@@ -15,7 +16,8 @@ pub record Measured (size : ℕ) : Type 0 where
   pub top-number : suc (topNumber size) ≡ capacity size
   pub whole : size ≡ (suc (capacity size) + bitmapBlocks size) * 64
   pub bits-enough : capacity size ≤ bitmapBlocks size * 512
-  pub two-bytes : capacity size ≤ 65536
+  pub two-bytes : capacity size ≤ 65535
+  pub bounded : size ≤ 1048576
 
 -- any whole number of blocks from 16,384 to 1,048,576 bytes
 fitting : ℕ → Bool
@@ -28,7 +30,7 @@ measured-of size e =
     let f = and-true-right (eqb (size % 64) 0) (leb 16384 size && leb size 1048576) e in
     let b : 16384 ≤ size = leb-true 16384 size (and-true-left (leb 16384 size) (leb size 1048576) f) in
     let c : size ≤ 1048576 = leb-true size 1048576 (and-true-right (leb 16384 size) (leb size 1048576) f) in
-    record { first-bitmap = omega arith; top-number = omega arith; whole = omega arith; bits-enough = omega arith; two-bytes = omega arith }
+    record { first-bitmap = omega arith; top-number = omega arith; whole = omega arith; bits-enough = omega arith; two-bytes = omega arith; bounded = c }
 
 -- each length of the table is such a number: computed over the table
 every-fits : (l : List ℕ) → anyOf (λ x. not (fitting x)) l ≡ false → (size : ℕ) → anyOf (eqb size) l ≡ true → fitting size ≡ true
@@ -43,9 +45,9 @@ every-fits (x ∷ l) e size h =
     go ih true q h = ap fitting (eqb-true size x q) ∙ here
     go ih false q h = ih h
 
-pub measured : (size : ℕ) → legalSize size ≡ true → Measured size
+pub measures-of : (size : ℕ) → legalSize size ≡ true → Measured size
 unfolding legalSize sizes fitting
-measured size h = measured-of size (every-fits sizes refl size h)
+measures-of size h = measured-of size (every-fits sizes refl size h)
 
 -- ---- legal numbers are those below the capacity
 
@@ -60,3 +62,11 @@ le-legal size n h = le-leb n (topNumber size) h
 pub above-illegal : (size n : ℕ) → topNumber size < n → legalNumber size n ≡ false
 unfolding legalNumber
 above-illegal size n h = lt-leb n (topNumber size) h
+
+pub legal-below : (size n : ℕ) → Measured size → legalNumber size n ≡ ltb n (capacity size)
+unfolding legalNumber
+legal-below size n m = go (decLe n (topNumber size))
+  where
+    go : Dec (n ≤ topNumber size) → leb n (topNumber size) ≡ ltb n (capacity size)
+    go (yes h) = le-leb n (topNumber size) h ∙ sym (lt-ltb n (capacity size) (omega (arith, h, m .top-number)))
+    go (no h) = lt-leb n (topNumber size) (omega (arith, h)) ∙ sym (le-ltb n (capacity size) (omega (arith, h, m .top-number)))

@@ -14,7 +14,7 @@ use Rattle.flash_model.specs.Measures.{topNumber}
 use Rattle.flash_model.specs.Partition.{headerNumber, Sound, contents}
 use Rattle.flash_model.specs.Calls.{PageCall, Call, Reply, Answered}
 use Rattle.flash_model.specs.Calls.{PageCall.read, PageCall.save, Call.onPage, Call.onWhole}
-use Rattle.flash_model.specs.PageStore.{PageMap, ownedPages, seen, samePage, storeCode, storeReply, storeAfter, storeReplies, storeFinal}
+use Rattle.flash_model.specs.PageStore.{PageMap, ownedPages, expectedPage, samePage, storeCode, storeReply, storeAfter, storeReplies, storeFinal}
 use Rattle.flash_model.specs.Runs.{Step, Chain, final, onOwned, savesOwned, withOwnedCall, ownedCalls, withOwnedAnswer, ownedAnswers, Item, Item.both, Item.between, stepsOf, callsInBoth, answersInBoth, WellMarked}
 use Rattle.flash_model.specs.Demands.{RunsAsStore, SameForOwned, Demand3}
 use Rattle.flash_model.proofs.MeaningLaws.{contents-length}
@@ -37,15 +37,15 @@ module _ (size header : ℕ) (owned : ℕ → Bool) where
   not-owned (read partition n buffer) e = refl
   not-owned (save partition n expected page) e = e
 
-  -- one step, and what comes of the rest
-  step : (image : List ℕ) (pages : PageMap) → Agree size header owned image pages
+  -- one one-step, and what comes of the rest
+  one-step : (image : List ℕ) (pages : PageMap) → Agree size header owned image pages
       → (c : Call) (image′ : List ℕ) (answer : Reply) → Answered image c image′ answer
       → (calls : List PageCall) (answers : List Reply) (end : List ℕ)
       → ((pages′ : PageMap) → Agree size header owned image′ pages′ → Comes pages′ calls answers end)
       → Comes pages (withOwnedCall owned c calls) (withOwnedAnswer owned c answer answers) end
-  step image pages agree (onWhole w) image′ answer a calls answers end rest =
+  one-step image pages agree (onWhole w) image′ answer a calls answers end rest =
       rest pages (subst (λ (r : List ℕ). Agree size header owned r pages) (sym (a .image-is)) (agree-between size header owned image pages agree (onWhole w) refl))
-  step image pages agree (onPage p) image′ answer a calls answers end rest = go (onOwned owned p) refl
+  one-step image pages agree (onPage p) image′ answer a calls answers end rest = go (onOwned owned p) refl
     where
       go : (t : Bool) → onOwned owned p ≡ t → Comes pages (cond t (p ∷ calls) calls) (cond t (answer ∷ answers) answers) end
       go true o =
@@ -60,12 +60,12 @@ module _ (size header : ℕ) (owned : ℕ → Bool) where
   unfolding storeReplies storeFinal
   run [] image pages agree c = record { same-answers = refl; agrees = agree }
   run (s ∷ steps) image pages agree c =
-      step image pages agree (s .made) (s .image′) (s .answer) (c .0) (ownedCalls owned steps) (ownedAnswers owned steps) (final (s .image′) steps)
+      one-step image pages agree (s .made) (s .image′) (s .answer) (c .0) (ownedCalls owned steps) (ownedAnswers owned steps) (final (s .image′) steps)
       (λ pages′ agree′. run steps (s .image′) pages′ agree′ (c .1))
 
 owned-start : (owned : ℕ → Bool) (image : List ℕ) → Sound image → Agree (length image) (headerNumber image) owned image (ownedPages owned image)
 unfolding ownedPages
-owned-start owned image s = record { sound = s; length-is = refl; number-is = refl; same-pages = λ n o. rw o }
+owned-start owned image s = record { is-sound = s; length-is = refl; number-is = refl; same-pages = λ n o. rw o }
 
 runs-as-store : (owned : ℕ → Bool) (image : List ℕ) (steps : List Step) → Sound image → Chain image steps → RunsAsStore owned image steps
 runs-as-store owned image steps s c =
@@ -73,7 +73,7 @@ runs-as-store owned image steps s c =
     record {
       answers = r .same-answers;
       pages = r .agrees .same-pages;
-      ends-sound = r .agrees .sound;
+      ends-sound = r .agrees .is-sound;
       same-length = r .agrees .length-is;
       same-number = r .agrees .number-is;
     }
@@ -156,11 +156,11 @@ two-runs owned s t xs ys sound-s sound-t l h same chain-s chain-t marked-s marke
 -- ---- never refused, from that theorem: the run of one save, with its number the only one owned
 
 module _ (image : List ℕ) (n : ℕ) (expected page image′ : List ℕ) (answer : Reply) (s : Sound image) (legal : n ≤ topNumber (length image))
-    (l : length page ≡ 60) (e : seen expected ≡ contents image n) where
+    (l : length page ≡ 60) (e : expectedPage expected ≡ contents image n) where
   abbrev it : PageCall
   it = save (headerNumber image) n expected page
 
-  right-length : (o : Option (List ℕ)) → contents image n ≡ o → (xs : List ℕ) → seen xs ≡ o → (length xs ≢ 0) × (length xs ≢ 60) → ⊥
+  right-length : (o : Option (List ℕ)) → contents image n ≡ o → (xs : List ℕ) → expectedPage xs ≡ o → (length xs ≢ 0) × (length xs ≢ 60) → ⊥
   right-length o q [] f d = d .0 refl
   right-length o q (x ∷ xs) f d = d .1 (contents-length image s n (x ∷ xs) (q ∙ sym f))
 
@@ -172,7 +172,7 @@ module _ (image : List ℕ) (n : ℕ) (expected page image′ : List ℕ) (answe
       ∙ if-neg (decLt (topNumber (length image)) n) (λ h. omega (arith, h, legal)) 6 _
       ∙ if-neg (Dec·not (ℕ-discrete (length page) 60)) (λ d. d l) 8 _
       ∙ if-neg (Dec·and (Dec·not (ℕ-discrete (length expected) 0)) (Dec·not (ℕ-discrete (length expected) 60))) (right-length (contents image n) refl expected e) 8 _
-      ∙ if-neg (Dec·not (samePage (seen expected) (pages n))) (λ d. d (e ∙ sym q)) 9 0
+      ∙ if-neg (Dec·not (samePage (expectedPage expected) (pages n))) (λ d. d (e ∙ sym q)) 9 0
 
   own-page : ownedPages (eqb n) image n ≡ contents image n
   unfolding ownedPages

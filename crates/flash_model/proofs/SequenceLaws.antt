@@ -1,7 +1,7 @@
 -- Blocks allocated in sequence: exactly the first ones. Assumes nothing.
 use Prim.Native.Nat.{ℕ, zero, suc, _+_, _≤_, _<_}
 use mathlib.Core.Path.{_≡_, refl, sym, ap, subst, _∙_}
-use mathlib.Core.Bool.{Bool, true, false, cond, _||_, true≢false}
+use mathlib.Core.Bool.{Bool, true, false, cond, _||_, true≢false, false≢true}
 use mathlib.Core.List.{_∷_, map}
 use native.Mathlib.Omega.{arith}
 use native.Mathlib.Decide.{ℕ-discrete, decLe}
@@ -126,3 +126,31 @@ closed-sequence p a (suc n) h = go (closed-sequence p (suc a) n (λ j k b c d. h
     go : allocatedAfterFree (map p (numbersFrom (suc a) n)) ≡ false → (t : Bool) → p a ≡ t → allocatedAfterFree (t ∷ map p (numbersFrom (suc a) n)) ≡ false
     go ih true e = ih
     go ih false e = none-later e (suc a) n (omega arith) (λ i b c f. h a i (omega arith) (omega arith) (omega arith) f)
+
+-- ---- out of sequence: a free one, and an allocated one above it
+
+some-passes : (p : ℕ → Bool) (a n : ℕ) → anyOf (λ t. t) (map p (numbersFrom a n)) ≡ true → (k : ℕ) × (a ≤ k) × (k < a + n) × (p k ≡ true)
+some-passes p a zero e = absurd (false≢true e)
+some-passes p a (suc n) e = go (some-passes p (suc a) n) (p a) refl e
+  where
+    go : (anyOf (λ t. t) (map p (numbersFrom (suc a) n)) ≡ true → (k : ℕ) × (suc a ≤ k) × (k < suc a + n) × (p k ≡ true)) → (t : Bool) → p a ≡ t
+        → (t || anyOf (λ t. t) (map p (numbersFrom (suc a) n))) ≡ true → (k : ℕ) × (a ≤ k) × (k < a + suc n) × (p k ≡ true)
+    go ih true q f = (a, omega arith, omega arith, q)
+    go ih false q f =
+        let h = ih f in
+        (h .0, omega (arith, h .1), omega (arith, h .2), h .3)
+
+pub sequence-gap : (p : ℕ → Bool) (a n : ℕ) → allocatedAfterFree (map p (numbersFrom a n)) ≡ true
+    → (j : ℕ) × (k : ℕ) × (a ≤ j) × (j < k) × (k < a + n) × (p j ≡ false) × (p k ≡ true)
+sequence-gap p a zero e = absurd (false≢true e)
+sequence-gap p a (suc n) e = go (sequence-gap p (suc a) n) (p a) refl e
+  where
+    go : (allocatedAfterFree (map p (numbersFrom (suc a) n)) ≡ true → (j : ℕ) × (k : ℕ) × (suc a ≤ j) × (j < k) × (k < suc a + n) × (p j ≡ false) × (p k ≡ true))
+        → (t : Bool) → p a ≡ t → allocatedAfterFree (t ∷ map p (numbersFrom (suc a) n)) ≡ true
+        → (j : ℕ) × (k : ℕ) × (a ≤ j) × (j < k) × (k < a + suc n) × (p j ≡ false) × (p k ≡ true)
+    go ih true q f =
+        let h = ih f in
+        (h .0, h .1, omega (arith, h .2), h .3, omega (arith, h .4), h .5, h .6)
+    go ih false q f =
+        let h = some-passes p (suc a) n f in
+        (a, h .0, omega arith, omega (arith, h .1), omega (arith, h .2), q, h .3)

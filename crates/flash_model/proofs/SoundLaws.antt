@@ -15,7 +15,7 @@ use Rattle.flash_model.specs.Measures.{legalSize, capacity, userBlocks}
 use Rattle.flash_model.specs.Bitmap.{allocatedIn, outOfSequence}
 use Rattle.flash_model.specs.Partition.{magic, headerNumber, version, bitmapOf, allocated, row, refusal, Sound, used}
 use Rattle.flash_model.specs.Demands.{SoundMeans, Keeps}
-use Rattle.flash_model.proofs.MeasureLaws.{Measured, measured}
+use Rattle.flash_model.proofs.MeasureLaws.{Measured, measures-of}
 use Rattle.flash_model.proofs.SequenceLaws.{UpTo, sequence-up-to, up-to-sequence, keep-length, passes-below, closed-sequence}
 
 -- ---- the rows of the refusal
@@ -66,19 +66,19 @@ module _ (image : List ℕ) (partition : ℕ) (e : refusal image partition ≡ 0
   pub named : headerNumber image ≡ partition
   named = eqb-true (headerNumber image) partition (not-false (eqb (headerNumber image) partition) (passed-rows .2))
 
--- of a tested image a call is refused before 6 exactly where it names another number
+-- of a tests-of image a call is refused before 6 exactly where it names another number
 pub tested-refusal : (image : List ℕ) → Tested image → (partition : ℕ) → refusal image partition ≡ row 3 (not (eqb (headerNumber image) partition)) 0
 unfolding refusal
 tested-refusal image t partition = rw (t .legal, t .same-letters, t .known-version, t .in-order)
 
-pub tested : (image : List ℕ) → Sound image → Tested image
-tested image s = unrefused image (headerNumber image) s
+pub tests-of : (image : List ℕ) → Sound image → Tested image
+tests-of image s = unrefused image (headerNumber image) s
 
 pub tested-sound : (image : List ℕ) → Tested image → Sound image
 tested-sound image t = tested-refusal image t (headerNumber image) ∙ rw (eq-eqb (headerNumber image) (headerNumber image) refl)
 
 pub sound-measured : (image : List ℕ) → Sound image → Measured (length image)
-sound-measured image s = measured (length image) (tested image s .legal)
+sound-measured image s = measures-of (length image) (tests-of image s .legal)
 
 -- ---- allocated are the first blocks, as many as are used
 
@@ -92,7 +92,7 @@ module _ (image : List ℕ) where
   tested-used t = sequence-up-to (allocatedIn (bitmapOf image)) (capacity (length image)) (t .in-order)
 
   pub allocated-used : Sound image → UpTo (allocated image) (capacity (length image)) (used image)
-  allocated-used s = tested-used (tested image s)
+  allocated-used s = tested-used (tests-of image s)
 
   up-to-order : (u : ℕ) → UpTo (allocated image) (capacity (length image)) u → outOfSequence (bitmapOf image) (capacity (length image)) ≡ false
   unfolding outOfSequence allocated
@@ -102,7 +102,7 @@ module _ (image : List ℕ) where
 
   means : Sound image → SoundMeans image
   means s =
-      let t = tested image s in
+      let t = tests-of image s in
       record {
         legal-size = t .legal;
         right-magic = same-eq (take 16 image) magic (t .same-letters);
@@ -140,9 +140,9 @@ module _ (image image′ : List ℕ) (header : take 64 image′ ≡ take 64 imag
   header-letters : take 16 image′ ≡ take 16 image
   header-letters = sym (take-take 16 64 image′ (omega arith)) ∙ ap (take 16) header ∙ take-take 16 64 image (omega arith)
 
-  pub keeps : Sound image → length image′ ≡ length image → (u : ℕ) → UpTo (allocated image′) (capacity (length image)) u → Keeps image image′
-  keeps s l u b =
-      let t = tested image s in
+  pub header-keeps : Sound image → length image′ ≡ length image → (u : ℕ) → UpTo (allocated image′) (capacity (length image)) u → Keeps image image′
+  header-keeps s l u b =
+      let t = tests-of image s in
       record {
         still-sound = tested-sound image′ (record {
           legal = rw l (t .legal);

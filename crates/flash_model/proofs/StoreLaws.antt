@@ -15,11 +15,11 @@ use Rattle.flash_model.specs.Measures.{topNumber, legalNumber}
 use Rattle.flash_model.specs.Partition.{row, refusal, headerNumber, Sound, contents}
 use Rattle.flash_model.specs.Calls.{PageCall, Call, Reply, first, differs, changedSince, codeOf, accepted, changedImage, replyTo, after}
 use Rattle.flash_model.specs.Calls.{PageCall.read, PageCall.save, WholeCall.check, WholeCall.report, WholeCall.nextLive, WholeCall.erase, Call.onPage, Call.onWhole}
-use Rattle.flash_model.specs.PageStore.{PageMap, given, seen, samePage, storeCode, readBuffer, storeReply, pagesAfter, storeAfter}
+use Rattle.flash_model.specs.PageStore.{PageMap, given, expectedPage, samePage, storeCode, readBuffer, storeReply, pagesAfter, storeAfter}
 use Rattle.flash_model.specs.Runs.{onOwned, savesOwned}
 use Rattle.flash_model.specs.Demands.{Keeps}
 use Rattle.flash_model.proofs.MeasureLaws.{legal-le, le-legal, above-illegal}
-use Rattle.flash_model.proofs.SoundLaws.{tested, tested-refusal, header-number}
+use Rattle.flash_model.proofs.SoundLaws.{tests-of, tested-refusal, header-number}
 use Rattle.flash_model.proofs.SaveLaws.{erased-keeps, erased-contents, saved-keeps, saved-contents}
 use Rattle.flash_model.proofs.CallLaws.{read-rows, save-rows, same-seen, seen-same}
 use Rattle.flash_model.proofs.MeaningLaws.{contents-length}
@@ -61,7 +61,7 @@ no-values false = refl
 module _ (size header : ℕ) (owned : ℕ → Bool) where
   -- the image and the store agree on the owned numbers
   pub record Agree (image : List ℕ) (pages : PageMap) : Type 0 where
-    pub sound : Sound image
+    pub is-sound : Sound image
     pub length-is : length image ≡ size
     pub number-is : headerNumber image ≡ header
     pub same-pages : (n : ℕ) → owned n ≡ true → contents image n ≡ pages n
@@ -71,7 +71,7 @@ module _ (size header : ℕ) (owned : ℕ → Bool) where
     front-rows : (partition n later : ℕ) → first (refusal image partition) (row 6 (not (legalNumber (length image) n)) later)
         ≡ row 3 (not (eqb header partition)) (row 6 (not (legalNumber size n)) later)
     front-rows partition n later =
-        ap (λ (r : ℕ). first r (row 6 (not (legalNumber (length image) n)) later)) (tested-refusal image (tested image (agree .sound)) partition)
+        ap (λ (r : ℕ). first r (row 6 (not (legalNumber (length image) n)) later)) (tested-refusal image (tests-of image (agree .is-sound)) partition)
         ∙ first-row (not (eqb (headerNumber image) partition)) (row 6 (not (legalNumber (length image) n)) later)
         ∙ rw (agree .length-is, agree .number-is)
 
@@ -106,7 +106,7 @@ module _ (size header : ℕ) (owned : ℕ → Bool) where
         front-rows partition n _
         ∙ front-same partition n _ _ (row-or 8 _ (not (eqb (length page) 60)) (not (eqb (length expected) 0 || eqb (length expected) 60))
         ∙ buffer-row (length page) _ _ (same-row both-lengths (not (eqb (length expected) 0 || eqb (length expected) 60)) 8 _ _ neither one-of
-        (rw (agree .same-pages n o) (same-row (Dec·not (samePage (seen expected) (pages n))) (differs (pages n) expected) 9 0 0 changed unchanged refl))))
+        (rw (agree .same-pages n o) (same-row (Dec·not (samePage (expectedPage expected) (pages n))) (differs (pages n) expected) 9 0 0 changed unchanged refl))))
       where
         both-lengths : Dec ((length expected ≢ 0) × (length expected ≢ 60))
         both-lengths = Dec·and (Dec·not (ℕ-discrete (length expected) 0)) (Dec·not (ℕ-discrete (length expected) 60))
@@ -123,19 +123,19 @@ module _ (size header : ℕ) (owned : ℕ → Bool) where
             go false e false f = absurd (d (eqb-false (length expected) 0 e, eqb-false (length expected) 60 f))
 
         long : (q : List ℕ) → pages n ≡ some q → length q ≡ 60
-        long q e = contents-length image (agree .sound) n q (agree .same-pages n o ∙ e)
+        long q e = contents-length image (agree .is-sound) n q (agree .same-pages n o ∙ e)
 
-        changed : (seen expected ≢ pages n) → differs (pages n) expected ≡ true
+        changed : (expectedPage expected ≢ pages n) → differs (pages n) expected ≡ true
         changed d = go (differs (pages n) expected) refl
           where
             go : (t : Bool) → differs (pages n) expected ≡ t → t ≡ true
             go true e = refl
             go false e = absurd (d (same-seen (pages n) long expected e))
 
-        unchanged : ((seen expected ≢ pages n) → ⊥) → differs (pages n) expected ≡ false
-        unchanged d = go (samePage (seen expected) (pages n))
+        unchanged : ((expectedPage expected ≢ pages n) → ⊥) → differs (pages n) expected ≡ false
+        unchanged d = go (samePage (expectedPage expected) (pages n))
           where
-            go : Dec (seen expected ≡ pages n) → differs (pages n) expected ≡ false
+            go : Dec (expectedPage expected ≡ pages n) → differs (pages n) expected ≡ false
             go (yes e) = seen-same (pages n) long expected e
             go (no n) = absurd (d n)
 
@@ -163,7 +163,7 @@ module _ (size header : ℕ) (owned : ℕ → Bool) where
         same-buffers true = refl
         same-buffers false = refl
 
--- ---- what every call keeps
+-- ---- what every call header-keeps
 
 after-done : (image : List ℕ) (c : Call) → codeOf image c ≡ 0 → after image c ≡ changedImage image c
 unfolding after accepted
@@ -177,7 +177,7 @@ keeps-refl : (image : List ℕ) → Sound image → Keeps image image
 keeps-refl image s = record { still-sound = s; same-length = refl; same-header = refl }
 
 module _ (image : List ℕ) (s : Sound image) where
-  -- of a call: what its image keeps, whether it is accepted or not
+  -- of a call: what its image header-keeps, whether it is accepted or not
   either : (P : List ℕ → Type 0) (c : Call) → P image → (codeOf image c ≡ 0 → P (changedImage image c)) → P (after image c)
   unfolding after accepted
   either P c same done = go (eqb (codeOf image c) 0) refl
@@ -220,21 +220,21 @@ module _ (image : List ℕ) (s : Sound image) where
 module _ (size header : ℕ) (owned : ℕ → Bool) (image : List ℕ) (pages : PageMap) (agree : Agree size header owned image pages) where
   agree-after : (c : Call) (pages′ : PageMap) → ((m : ℕ) → owned m ≡ true → contents (after image c) m ≡ pages′ m) → Agree size header owned (after image c) pages′
   agree-after c pages′ same =
-      let k = call-keeps image (agree .sound) c in
+      let k = call-keeps image (agree .is-sound) c in
       record {
-        sound = k .still-sound;
+        is-sound = k .still-sound;
         length-is = k .same-length ∙ agree .length-is;
         number-is = header-number image (after image c) (k .same-header) ∙ agree .number-is;
         same-pages = same;
       }
 
   pub agree-between : (c : Call) → savesOwned owned c ≡ false → Agree size header owned (after image c) pages
-  agree-between c f = agree-after c pages (λ m o. others-alone image (agree .sound) owned c f m o ∙ agree .same-pages m o)
+  agree-between c f = agree-after c pages (λ m o. others-alone image (agree .is-sound) owned c f m o ∙ agree .same-pages m o)
 
   fed-pages : (p : PageCall) → onOwned owned p ≡ true → (m : ℕ) → owned m ≡ true → contents (after image (onPage p)) m ≡ storeAfter size header pages p m
   unfolding storeAfter
   fed-pages (read partition n buffer) o m om =
-      others-alone image (agree .sound) owned (onPage (read partition n buffer)) refl m om ∙ agree .same-pages m om
+      others-alone image (agree .is-sound) owned (onPage (read partition n buffer)) refl m om ∙ agree .same-pages m om
   fed-pages (save partition n expected page) o m om =
       rw (sym (code-agrees size header owned image pages agree p o)) (go (codeOf image (onPage p)) refl)
     where
@@ -250,7 +250,7 @@ module _ (size header : ℕ) (owned : ℕ → Bool) (image : List ℕ) (pages : 
       go zero e =
           let r = save-rows image partition n expected page e in
           ap (λ (r : List ℕ). contents r m) (after-done image (onPage p) e)
-          ∙ saved-contents image (agree .sound) n page (legal-le (length image) n (r .is-legal)) (r .page-60) m
+          ∙ saved-contents image (agree .is-sound) n page (legal-le (length image) n (r .is-legal)) (r .page-60) m
           ∙ stored (ℕ-discrete m n) (agree .same-pages m om)
       go (suc refused) e = ap (λ (r : List ℕ). contents r m) (after-refused image (onPage p) refused e) ∙ agree .same-pages m om
 

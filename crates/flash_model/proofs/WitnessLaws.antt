@@ -22,7 +22,7 @@ use Rattle.flash_model.specs.Update.{compacted}
 use Rattle.flash_model.specs.Calls.{Call, replyTo, after}
 use Rattle.flash_model.specs.Runs.{Step, Chain}
 use Rattle.flash_model.specs.Demands.{LowestFreeBlank, Bytes, NotVacuous}
-use Rattle.flash_model.proofs.MeasureLaws.{Measured, measured, le-legal}
+use Rattle.flash_model.proofs.MeasureLaws.{Measured, measures-of, le-legal}
 use Rattle.flash_model.proofs.BitmapLaws.{ff-free}
 use Rattle.flash_model.proofs.SequenceLaws.{UpTo, up-to-sequence}
 use Rattle.flash_model.proofs.BlockLaws.{new-length, new-number, new-payload, new-right}
@@ -53,7 +53,7 @@ three-sizes size = (go (eqb size 16384) refl (eqb size 32768) refl (eqb size 655
 
 module _ (size partition : ℕ) (legal : legalSize size ≡ true) where
   m : Measured size
-  m = measured size legal
+  m = measures-of size legal
 
   head : List ℕ
   head = magic ++ partition ∷ 1 ∷ []
@@ -181,7 +181,7 @@ module _ (size partition : ℕ) (page : List ℕ) (legal : legalSize size ≡ tr
     whole = every-block (λ b. length b ≡ 64) (λ n h. new-length n page l);
     right = every-block (λ b. rightChecksum b ≡ true) (λ n h. new-right n page l);
     legal = every-block (λ b. legalNumber (length base) (number b) ≡ true)
-        (λ n h. rw (base-length, new-number n page l) (le-legal size n (omega (arith, measured size legal .top-number))));
+        (λ n h. rw (base-length, new-number n page l) (le-legal size n (omega (arith, measures-of size legal .top-number))));
     room = omega (arith, all-length, ap capacity base-length);
   }
 
@@ -204,22 +204,22 @@ module _ (size partition : ℕ) (page : List ℕ) (legal : legalSize size ≡ tr
       ∙ ap (Option·map (λ i. newBlock i page))
       (last-all (λ i. hasNumber n (newBlock i page)) (λ i. eqb i n) range
       (all-range (λ i. hasNumber n (newBlock i page) ≡ eqb i n) 0 (capacity size) (λ i lo hi. rw (new-number i page l)))
-      ∙ range-last n 0 (capacity size) (omega arith) (omega (arith, h, measured size legal .top-number))))
+      ∙ range-last n 0 (capacity size) (omega arith) (omega (arith, h, measures-of size legal .top-number))))
       ∙ ap (λ (p : List ℕ). some p) (new-payload n page l)
 
   top-allocated : allocated full (capacity size) ≡ true
   unfolding full
   top-allocated =
       let w = all-writable in
-      let m : Measured (length base) = rw base-length (measured size legal) in
-      let lo : 1 ≤ capacity size = omega (arith, measured size legal .top-number) in
+      let m : Measured (length base) = rw base-length (measures-of size legal) in
+      let lo : 1 ≤ capacity size = omega (arith, measures-of size legal .top-number) in
       compacted-up-to base all-blocks m (w .room) (w .whole) (capacity size) lo (omega (arith, ap capacity base-length))
       ∙ le-leb (capacity size) (length all-blocks) (omega (arith, all-length))
 
   full-used : used full ≡ capacity size
   full-used =
       let len = full-keeps .0 in
-      let lo : 1 ≤ capacity size = omega (arith, measured size legal .top-number) in
+      let lo : 1 ≤ capacity size = omega (arith, measures-of size legal .top-number) in
       let a = allocated-used full (unrefused-sound full partition (full-keeps .1)) (capacity size) lo (omega (arith, ap capacity len)) in
       omega (arith, leb-true (capacity size) (used full) (sym a ∙ top-allocated), used-most full, ap capacity len)
 
@@ -227,7 +227,7 @@ module _ (size partition : ℕ) (page : List ℕ) (legal : legalSize size ≡ tr
   unfolding full base
   full-bytes h b =
       compacted-bytes base all-blocks (formatted-bytes size partition legal h)
-      (every-block Bytes (λ n i. new-bytes n page (omega (arith, i, measured size legal .two-bytes)) b))
+      (every-block Bytes (λ n i. new-bytes n page (omega (arith, i, measures-of size legal .two-bytes)) b))
 
 -- ---- any calls make a chain
 

@@ -1,4 +1,4 @@
--- The bits, from its own bytes: document 01, "Partition measures", the paragraph "Bitmap". Blocks are user blocks,
+-- The bitmap, from its own bytes: document 01, "Partition measures", the paragraph "Bitmap". Blocks are user blocks,
 -- numbered from 1. The bits past the last user block are ignored, since nobody asks for them.
 -- Assumes nothing.
 use Prim.Native.Nat.{ℕ, zero, suc, _-_, _/_, _%_, _^_}

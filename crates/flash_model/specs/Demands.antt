@@ -6,8 +6,11 @@ use mathlib.Core.Bool.{Bool, true, false}
 use mathlib.Core.List.{List, [], _∷_, _++_, map}
 use mathlib.Core.Option.{none, some}
 use mathlib.Core.Logic.{_↔_, _≢_, _⊎_}
+use lib.Dec.{eqb}
 use lib.ListN.{length, getD, take, replicate}
-use Rattle.words.specs.Words.{sameBytes}
+use Rattle.words.specs.Lists.{anyOf}
+use Rattle.words.specs.Words.{word, sameBytes}
+use Rattle.checksum.specs.Crc.{checksumOf}
 use Rattle.flash_model.specs.Measures.{legalSize, bitmapBlocks, firstBitmap, capacity, topNumber}
 use Rattle.flash_model.specs.Bitmap.{bitByte, bitWeight, bitOf}
 use Rattle.flash_model.specs.UserBlock.{number, payload, rightChecksum, newBlock}
@@ -15,7 +18,7 @@ use Rattle.flash_model.specs.Partition.{blockAt, magic, headerNumber, ve
 use Rattle.flash_model.specs.Update.{holders, otherHolders}
 use Rattle.flash_model.specs.Calls.{Call, Reply, codeOf, buffersOf, Answered}
 use Rattle.flash_model.specs.Calls.{PageCall.read, PageCall.save, WholeCall.check, WholeCall.report, WholeCall.nextLive, WholeCall.erase, Call.onPage, Call.onWhole}
-use Rattle.flash_model.specs.PageStore.{seen, ownedPages, storeReplies, storeFinal}
+use Rattle.flash_model.specs.PageStore.{expectedPage, ownedPages, storeReplies, storeFinal}
 use Rattle.flash_model.specs.Runs.{Step, Chain, final, ownedCalls, ownedAnswers, Item, stepsOf, callsInBoth, answersInBoth, WellMarked}
 
 -- ---- what the definitions mean: document 01, "Partition measures"
@@ -45,19 +48,55 @@ pub record HighestHolds (image : List ℕ) (n : ℕ) (page : List ℕ) : Type 0 
   pub page-is : page ≡ payload (blockAt image at)
 
 -- The number is live, not below the start, and none between is.
-pub record LowestLive (image : List ℕ) (start n : ℕ) : Type 0 where
+pub record NextLiveIs (image : List ℕ) (start n : ℕ) : Type 0 where
   pub not-below : start ≤ n
   pub is-live : contents image n ≢ none
   pub none-between : (m : ℕ) → start ≤ m → m < n → contents image m ≡ none
 
+-- An allocated user block follows a free one.
+pub record Gap (image : List ℕ) : Type 0 where
+  pub free-block : ℕ
+  pub later-block : ℕ
+  pub low : 1 ≤ free-block
+  pub later : free-block < later-block
+  pub high : later-block ≤ capacity (length image)
+  pub is-free : allocated image free-block ≡ false
+  pub is-allocated : allocated image later-block ≡ true
+
+-- Refusals 1 to 5 of "Numbers the bench will see", each "given exactly when", and none before its turn.
+pub record RefusalsMean (image : List ℕ) (partition : ℕ) : Type 0 where
+  pub row-1 : (refusal image partition ≡ 1) ↔ (legalSize (length image) ≡ false)
+  pub row-2 : (refusal image partition ≡ 2) ↔ ((legalSize (length image) ≡ true) × (take 16 image ≢ magic))
+  pub row-3 : (refusal image partition ≡ 3)
+      ↔ ((legalSize (length image) ≡ true) × (take 16 image ≡ magic) × (headerNumber image ≢ partition))
+  pub row-4 : (refusal image partition ≡ 4)
+      ↔ ((legalSize (length image) ≡ true) × (take 16 image ≡ magic) × (headerNumber image ≡ partition) × (1 < version image))
+  pub row-5 : (refusal image partition ≡ 5)
+      ↔ ((legalSize (length image) ≡ true) × (take 16 image ≡ magic) × (headerNumber image ≡ partition) × (version image ≤ 1) × Gap image)
+
+-- Rising numbers, all above `low`.
+abbrev pub Rising : ℕ → List ℕ → Type 0
+Rising low [] = Unit {0}
+Rising low (k ∷ ks) = (low < k) × Rising k ks
+
+-- These are the physical blocks that hold contents, in rising order.
+pub record HoldersAt (image places : List ℕ) : Type 0 where
+  pub blocks-are : holders image ≡ map (blockAt image) places
+  pub in-order : Rising 0 places
+  pub each-holds : (k : ℕ) → (anyOf (eqb k) places ≡ true) ↔ ((n : ℕ) × (page : List ℕ) × (h : HighestHolds image n page) × (h .at ≡ k))
+
 pub record Meanings : Type 0 where
+  pub refusals-mean : (image : List ℕ) (partition : ℕ) → RefusalsMean image partition
   pub sound-means : (image : List ℕ) → Sound image ↔ SoundMeans image
   pub refused-not : (image : List ℕ) (partition : ℕ) → (refusal image partition ≡ 0) ↔ (Sound image × (headerNumber image ≡ partition))
   pub contents-are : (image : List ℕ) (n : ℕ) (page : List ℕ) → (contents image n ≡ some page) ↔ HighestHolds image n page
   pub page-length : (image : List ℕ) (n : ℕ) (page : List ℕ) → Sound image → contents image n ≡ some page → length page ≡ 60
+  pub right-checksum : (block : List ℕ) → (rightChecksum block ≡ true) ↔ (word block 62 ≡ checksumOf (take 62 block))
+  pub used-most : (image : List ℕ) → used image ≤ capacity (length image)
   pub used-are : (image : List ℕ) → Sound image → (k : ℕ) → 1 ≤ k → k ≤ capacity (length image) → (allocated image k ≡ true) ↔ (k ≤ used image)
+  pub holders-are : (image : List ℕ) → (places : List ℕ) × HoldersAt image places
   pub live-are : (image : List ℕ) → Sound image → live image ≡ length (holders image)
-  pub next-live : (image : List ℕ) (start n : ℕ) → Sound image → (lowestLive image start ≡ some n) ↔ LowestLive image start n
+  pub next-live : (image : List ℕ) (start n : ℕ) → Sound image → (lowestLive image start ≡ some n) ↔ NextLiveIs image start n
   pub same-bytes : (a b : List ℕ) → (sameBytes a b ≡ true) ↔ (a ≡ b)
 
 -- ---- demand 2
@@ -72,12 +111,12 @@ pub record Keeps (image image′ : List ℕ) : Type 0 where
 pub record SavedAs (image : List ℕ) (n : ℕ) (page image′ : List ℕ) : Type 0 where
   pub saved-page : contents image′ n ≡ some page
   pub other-pages : (m : ℕ) → m ≢ n → contents image′ m ≡ contents image m
-  pub partition : Keeps image image′
+  pub keeps-rest : Keeps image image′
 
 -- Every number's page is as before.
 pub record ErasedAs (image image′ : List ℕ) : Type 0 where
   pub all-pages : (m : ℕ) → contents image′ m ≡ contents image m
-  pub partition : Keeps image image′
+  pub keeps-rest : Keeps image image′
 
 -- "a free user block exists and the lowest free one holds 64 bytes of FF": block k.
 pub record LowestFreeBlank (image : List ℕ) (k : ℕ) : Type 0 where
@@ -124,14 +163,14 @@ namedBy (onWhole (report partition)) = partition
 namedBy (onWhole (nextLive partition start)) = partition
 namedBy (onWhole (erase partition)) = partition
 
--- The calls that only look.
-abbrev pub Looks : Call → Type 0
-Looks (onPage (read partition n buffer)) = Unit {0}
-Looks (onPage (save partition n expected page)) = ⊥
-Looks (onWhole (check partition)) = Unit {0}
-Looks (onWhole (report partition)) = Unit {0}
-Looks (onWhole (nextLive partition start)) = Unit {0}
-Looks (onWhole (erase partition)) = ⊥
+-- The calls that write nothing but their buffer.
+abbrev pub ReadOnly : Call → Type 0
+ReadOnly (onPage (read partition n buffer)) = Unit {0}
+ReadOnly (onPage (save partition n expected page)) = ⊥
+ReadOnly (onWhole (check partition)) = Unit {0}
+ReadOnly (onWhole (report partition)) = Unit {0}
+ReadOnly (onWhole (nextLive partition start)) = Unit {0}
+ReadOnly (onWhole (erase partition)) = ⊥
 
 -- An accepted save that left image′.
 abbrev pub SaveDone : List ℕ → ℕ → List ℕ → List ℕ → Type 0
@@ -149,7 +188,16 @@ pub record Demand2 : Type 0 where
   -- a refusal leaves the image and every buffer as they were, and hands nothing back
   pub refusal-keeps : (image : List ℕ) (c : Call) (image′ : List ℕ) (answer : Reply) → Answered image c image′ answer
       → answer .code ≢ 0 → (image′ ≡ image) × (answer .buffers ≡ buffersOf c) × (answer .values ≡ [])
-  pub looking-keeps : (image : List ℕ) (c : Call) (image′ : List ℕ) (answer : Reply) → Looks c → Answered image c image′ answer → image′ ≡ image
+  pub read-only-keeps : (image : List ℕ) (c : Call) (image′ : List ℕ) (answer : Reply) → ReadOnly c → Answered image c image′ answer → image′ ≡ image
+  pub report-gives : (image : List ℕ) (partition : ℕ) (image′ : List ℕ) (answer : Reply)
+      → Answered image (onWhole (report partition)) image′ answer → answer .code ≡ 0
+      → answer .values ≡ version image ∷ capacity (length image) ∷ used image ∷ live image ∷ []
+  -- next-live gives the number, or 7 and nothing else where there is none
+  pub next-live-gives : (image : List ℕ) (partition start : ℕ) (image′ : List ℕ) (answer : Reply)
+      → Answered image (onWhole (nextLive partition start)) image′ answer → answer .code ≡ 0
+      → (n : ℕ) × (answer .values ≡ n ∷ []) × NextLiveIs image start n
+  pub next-live-none : (image : List ℕ) (start : ℕ) → Sound image → codeOf image (onWhole (nextLive (headerNumber image) start)) ≢ 0
+      → (codeOf image (onWhole (nextLive (headerNumber image) start)) ≡ 7) × ((n : ℕ) → start ≤ n → contents image n ≡ none)
   -- a read that is accepted leaves the contents in its buffer
   pub read-gives : (image : List ℕ) (partition n : ℕ) (buffer image′ : List ℕ) (answer : Reply)
       → Answered image (onPage (read partition n buffer)) image′ answer → answer .code ≡ 0
@@ -163,9 +211,9 @@ pub record Demand2 : Type 0 where
       → CompactedAs image (otherHolders image n ++ newBlock n page ∷ []) image′
   -- "In an otherwise proper save, it is refused as changed exactly when that is no longer so", and else accepted
   pub refused-as-changed : (image : List ℕ) (partition n : ℕ) (expected page : List ℕ) → ProperSave image partition n expected page
-      → (codeOf image (onPage (save partition n expected page)) ≡ 9) ↔ (seen expected ≢ contents image n)
+      → (codeOf image (onPage (save partition n expected page)) ≡ 9) ↔ (expectedPage expected ≢ contents image n)
   pub accepted-unchanged : (image : List ℕ) (partition n : ℕ) (expected page : List ℕ) → ProperSave image partition n expected page
-      → (codeOf image (onPage (save partition n expected page)) ≡ 0) ↔ (seen expected ≡ contents image n)
+      → (codeOf image (onPage (save partition n expected page)) ≡ 0) ↔ (expectedPage expected ≡ contents image n)
   pub erase-keeps : (image : List ℕ) (partition : ℕ) (image′ : List ℕ) (answer : Reply)
       → Answered image (onWhole (erase partition)) image′ answer → answer .code ≡ 0
       → ErasedAs image image′ × CompactedAs image (holders image) image′
@@ -198,7 +246,7 @@ pub record Demand3 : Type 0 where
       → Chain s (stepsOf xs) → Chain t (stepsOf ys) → WellMarked owned xs → WellMarked owned ys → callsInBoth xs ≡ callsInBoth ys
       → SameForOwned owned s t xs ys
   pub never-refused : (image : List ℕ) (n : ℕ) (expected page image′ : List ℕ) (answer : Reply)
-      → Sound image → n ≤ topNumber (length image) → length page ≡ 60 → seen expected ≡ contents image n
+      → Sound image → n ≤ topNumber (length image) → length page ≡ 60 → expectedPage expected ≡ contents image n
       → Answered image (onPage (save (headerNumber image) n expected page)) image′ answer
       → (answer .code ≡ 0) × (contents image′ n ≡ some page)
 

@@ -4,6 +4,8 @@
 use Prim.Native.Nat.{ℕ}
 use mathlib.Core.Path.{_≡_, refl}
 use mathlib.Core.List.{List, [], _∷_, _++_, map}
+use mathlib.Core.Bool.{true, false}
+use lib.Dec.{eqb}
 use lib.ListN.{replicate, set}
 use Rattle.words.specs.Lists.{concat, toList}
 use Rattle.words.specs.Words.{word, wordBytes}
@@ -13,6 +15,9 @@ use Rattle.flash_model.specs.Bitmap.{bitByte, bitPlace, bitWeight, bitOf
 use Rattle.flash_model.specs.UserBlock.{number, payload, rightChecksum, newBlock}
 use Rattle.flash_model.specs.Partition.{blockAt, bitmapOf, allocated, lowestFree, holds, holder, contents, live, used, lowestLive}
 use Rattle.flash_model.specs.Update.{beforeBitmap, bitCleared, bitsCleared, appendBlock, withBlock, appended, isHolder, holders, otherHolders, rewritten, compacted, saved, erased}
+use Rattle.flash_model.specs.Calls.{Call, Reply}
+use Rattle.flash_model.specs.Calls.{PageCall.read, PageCall.save, WholeCall.erase, Call.onPage, Call.onWhole}
+use Rattle.flash_model.specs.Runs.{Step, savesOwned, ownedCalls, ownedAnswers}
 
 -- A user block of this number whose page is one byte throughout, a blank one, and an image of six such blocks behind a header
 -- block of 07, with this first bitmap byte.
@@ -25,9 +30,9 @@ blank = replicate 64 255
 unfoldable pub imageOf : List (List ℕ) → ℕ → List ℕ
 imageOf bs byte = replicate 64 7 ++ concat bs ++ byte ∷ replicate 63 255
 
--- Two copies of number 0 with a damaged third above them, the top number, one above it, and a blank block that is free.
+-- The top number, two copies of number 0 with a damaged third above them, one above the top, and a blank block that is free.
 unfoldable pub worn : List ℕ
-worn = imageOf (blockOf 0 1 ∷ blockOf 0 2 ∷ set (blockOf 0 3) 20 4 ∷ blockOf 5 9 ∷ blockOf 6 8 ∷ blank ∷ []) 0x07
+worn = imageOf (blockOf 5 9 ∷ blockOf 0 1 ∷ blockOf 0 2 ∷ set (blockOf 0 3) 20 4 ∷ blockOf 6 8 ∷ blank ∷ []) 0x07
 
 -- The lowest free block has one byte that isn't FF.
 unfoldable pub spoiled : List ℕ
@@ -37,25 +42,48 @@ pub record Example : Type 0 where
   pub defined : List ℕ
   pub worked : List ℕ
 
-abbrev pub example : List ℕ → List ℕ → Example
-example d w = record { defined = d; worked = w }
+abbrev pub exampleOf : List ℕ → List ℕ → Example
+exampleOf d w = record { defined = d; worked = w }
 
 unfoldable pub examples : List Example
 examples =
     -- the highest copy with a right checksum; nothing above the top number
-    example (concat (toList (contents worn 0))) (replicate 60 2)
-    ∷ example (concat (toList (contents worn 5))) (replicate 60 9)
-    ∷ example (concat (toList (contents worn 6))) []
-    ∷ example (used worn ∷ live worn ∷ toList (lowestLive worn 1)) (5 ∷ 2 ∷ 5 ∷ [])
+    exampleOf (concat (toList (contents worn 0))) (replicate 60 2)
+    ∷ exampleOf (concat (toList (contents worn 5))) (replicate 60 9)
+    ∷ exampleOf (concat (toList (contents worn 6))) []
+    ∷ exampleOf (used worn ∷ live worn ∷ toList (lowestLive worn 1)) (5 ∷ 2 ∷ 5 ∷ [])
     -- an append; then a compaction, since no block is free; an erase
-    ∷ example (saved worn 0 (replicate 60 77))
-    (imageOf (blockOf 0 1 ∷ blockOf 0 2 ∷ set (blockOf 0 3) 20 4 ∷ blockOf 5 9 ∷ blockOf 6 8 ∷ blockOf 0 77 ∷ []) 0x03)
-    ∷ example (saved (saved worn 0 (replicate 60 77)) 0 (replicate 60 78)) (imageOf (blockOf 5 9 ∷ blockOf 0 78 ∷ blank ∷ blank ∷ blank ∷ blank ∷ []) 0x3F)
-    ∷ example (erased worn) (imageOf (blockOf 0 2 ∷ blockOf 5 9 ∷ blank ∷ blank ∷ blank ∷ blank ∷ []) 0x3F)
+    ∷ exampleOf (saved worn 0 (replicate 60 77))
+    (imageOf (blockOf 5 9 ∷ blockOf 0 1 ∷ blockOf 0 2 ∷ set (blockOf 0 3) 20 4 ∷ blockOf 6 8 ∷ blockOf 0 77 ∷ []) 0x03)
+    ∷ exampleOf (saved (saved worn 0 (replicate 60 77)) 0 (replicate 60 78)) (imageOf (blockOf 5 9 ∷ blockOf 0 78 ∷ blank ∷ blank ∷ blank ∷ blank ∷ []) 0x3F)
+    ∷ exampleOf (erased worn) (imageOf (blockOf 5 9 ∷ blockOf 0 2 ∷ blank ∷ blank ∷ blank ∷ blank ∷ []) 0x3F)
     -- a compaction, since the lowest free block is spoiled
-    ∷ example (saved spoiled 2 (replicate 60 5)) (imageOf (blockOf 1 1 ∷ blockOf 2 5 ∷ blank ∷ blank ∷ blank ∷ blank ∷ []) 0x3F)
+    ∷ exampleOf (saved spoiled 2 (replicate 60 5)) (imageOf (blockOf 1 1 ∷ blockOf 2 5 ∷ blank ∷ blank ∷ blank ∷ blank ∷ []) 0x3F)
     ∷ []
 
 pub examples-hold : map (λ (e : Example). e .defined) examples ≡ map (λ (e : Example). e .worked) examples
 unfolding examples blockOf blank imageOf worn spoiled word wordBytes shift shifts takes crcFrom checksumOf blocks bitmapBlocks firstBitmap capacity userBlocks topNumber legalNumber logicalNumbers bitByte bitPlace bitWeight bitOf allocatedIn lowestFreeIn cleared firstCleared number payload rightChecksum newBlock blockAt bitmapOf allocated lowestFree holds holder contents live used lowestLive beforeBitmap bitCleared bitsCleared appendBlock withBlock appended isHolder holders otherHolders rewritten compacted saved erased
 examples-hold = refl
+
+-- ---- which calls of a run are on owned numbers
+
+-- A step of a run that answers this number; the image plays no part here.
+abbrev pub stepWith : Call → ℕ → Step
+stepWith c answered = record { made = c; answer = record { code = answered; values = []; buffers = [] }; image′ = [] }
+
+abbrev pub someSteps : List Step
+someSteps =
+    stepWith (onPage (read 2 4 [])) 8 ∷ stepWith (onPage (save 2 5 [] [])) 1 ∷ stepWith (onWhole (erase 2)) 2
+    ∷ stepWith (onPage (save 3 4 [] [])) 3 ∷ stepWith (onPage (read 2 5 [])) 5 ∷ []
+
+-- Number 4 alone is owned.
+pub owned-calls : ownedCalls (eqb 4) someSteps ≡ read 2 4 [] ∷ save 3 4 [] [] ∷ []
+owned-calls = refl
+
+pub owned-answers : map (λ (r : Reply). r .code) (ownedAnswers (eqb 4) someSteps) ≡ 8 ∷ 3 ∷ []
+owned-answers = refl
+
+-- A foreign save, a read of an owned number and an erase may stand between; a save of an owned number may not.
+pub may-stand-between : map (savesOwned (eqb 4)) (onPage (save 2 5 [] []) ∷ onPage (read 2 4 []) ∷ onWhole (erase 2) ∷ onPage (save 2 4 [] []) ∷ [])
+    ≡ false ∷ false ∷ false ∷ true ∷ []
+may-stand-between = refl

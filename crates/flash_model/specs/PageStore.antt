@@ -28,17 +28,17 @@ ownedPages owned image n = cond (owned n) (contents image n) none
 abbrev pub given : {P : Type 0} → Dec P → ℕ → ℕ → ℕ
 given fact refused later = ite fact refused later
 
--- "last-seen (0 bytes being nothing)"
-abbrev pub seen : List ℕ → Option (List ℕ)
-seen [] = none
-seen (x ∷ xs) = some (x ∷ xs)
+-- The expected page: "last-seen (0 bytes being nothing)".
+abbrev pub expectedPage : List ℕ → Option (List ℕ)
+expectedPage [] = none
+expectedPage (x ∷ xs) = some (x ∷ xs)
 
 unfoldable pub samePage : Discrete (Option (List ℕ))
 samePage = option.discrete (List-discrete ℕ-discrete)
 
 -- "Any call: another partition number named, 3; else logical number above M-2, 6."
 -- "A read past these: page buffer not 60 bytes, 8; nothing kept, 7; else 0"
--- "A save past these: new page not 60 bytes, or last-seen neither 0 nor 60, 8; last-seen not what is kept, 9; else 0"
+-- "A save past these: new page not 60 bytes, or last-seen neither 0 nor 60, 8; last-seen .. not what is kept, 9; else 0"
 unfoldable pub storeCode : ℕ → ℕ → PageMap → PageCall → ℕ
 storeCode size header pages (read partition n buffer) =
     given (Dec·not (ℕ-discrete partition header)) 3
@@ -50,7 +50,7 @@ storeCode size header pages (save partition n expected page) =
     (given (decLt (topNumber size) n) 6
     (given (Dec·not (ℕ-discrete (length page) 60)) 8
     (given (Dec·and (Dec·not (ℕ-discrete (length expected) 0)) (Dec·not (ℕ-discrete (length expected) 60))) 8
-    (given (Dec·not (samePage (seen expected) (pages n))) 9 0))))
+    (given (Dec·not (samePage (expectedPage expected) (pages n))) 9 0))))
 
 -- ".. else 0, and the buffer gets the page kept."
 abbrev pub readBuffer : ℕ → Option (List ℕ) → List ℕ → List ℕ

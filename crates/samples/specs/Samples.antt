@@ -1,4 +1,4 @@
--- Document 01, "Samples from the bench": what a definition gives, and what the bench has, in one table, and one theorem over
+-- Document 01, "Samples from the bench", (a) to (i); (j) to (l) come with the card. What a definition gives, and what the bench has, in one table, and one theorem over
 -- all of it, which antt computes.
 -- Assumes nothing.
 use Prim.Native.Nat.{ℕ}
@@ -16,10 +16,10 @@ use Rattle.flash_model.specs.Partition.{magic, headerNumber, version, bitmapOf,
 
 pub record Sample : Type 0 where
   pub defined : List ℕ
-  pub given : List ℕ
+  pub bench : List ℕ
 
-abbrev pub sample : List ℕ → List ℕ → Sample
-sample d g = record { defined = d; given = g }
+abbrev pub sampleOf : List ℕ → List ℕ → Sample
+sampleOf d b = record { defined = d; bench = b }
 
 -- 1 for yes.
 abbrev pub bit : Bool → ℕ
@@ -30,9 +30,12 @@ bit false = 0
 abbrev pub measures : ℕ → List ℕ
 measures size = bit (legalSize size) ∷ blocks size ∷ bitmapBlocks size ∷ firstBitmap size ∷ capacity size ∷ topNumber size ∷ []
 
--- Partition 2, version 1, of 16,384 bytes, with this first bitmap byte and no block written.
+-- Partition 2, version 1, of 16,384 bytes, with this first bitmap byte and no block written. Its first 16 bytes are the ASCII
+-- codes of KATANA_FLASH____, as any program prints them.
 unfoldable pub unwritten : ℕ → List ℕ
-unwritten byte = magic ++ 2 ∷ 1 ∷ replicate 16302 255 ++ byte ∷ replicate 63 255
+unwritten byte =
+    0x4B ∷ 0x41 ∷ 0x54 ∷ 0x41 ∷ 0x4E ∷ 0x41 ∷ 0x5F ∷ 0x46 ∷ 0x4C ∷ 0x41 ∷ 0x53 ∷ 0x48 ∷ 0x5F ∷ 0x5F ∷ 0x5F ∷ 0x5F ∷ 2 ∷ 1 ∷ []
+    ++ replicate 16302 255 ++ byte ∷ replicate 63 255
 
 -- A page, and the user block that tests/vectors/block.py makes of it for number 292.
 unfoldable pub page292 : List ℕ
@@ -47,25 +50,25 @@ block292 = 36 ∷ 1 ∷ page292 ++ 196 ∷ 71 ∷ []
 unfoldable pub samples : List Sample
 samples =
     -- (a) (b) (c)
-    sample (checksumOf [] ∷ []) (0x0000 ∷ [])
-    ∷ sample (checksumOf (0xFF ∷ []) ∷ []) (0x00FF ∷ [])
-    ∷ sample (checksumOf (0xFF ∷ 0xFF ∷ []) ∷ []) (0xFFFF ∷ [])
+    sampleOf (checksumOf [] ∷ []) (0x0000 ∷ [])
+    ∷ sampleOf (checksumOf (0xFF ∷ []) ∷ []) (0x00FF ∷ [])
+    ∷ sampleOf (checksumOf (0xFF ∷ 0xFF ∷ []) ∷ []) (0xFFFF ∷ [])
     -- (d) (e) (f)
-    ∷ sample (measures 16384) (1 ∷ 256 ∷ 1 ∷ 255 ∷ 254 ∷ 253 ∷ [])
-    ∷ sample (measures 32768) (1 ∷ 512 ∷ 1 ∷ 511 ∷ 510 ∷ 509 ∷ [])
-    ∷ sample (measures 65536) (1 ∷ 1024 ∷ 2 ∷ 1022 ∷ 1021 ∷ 1020 ∷ [])
+    ∷ sampleOf (measures 16384) (1 ∷ 256 ∷ 1 ∷ 255 ∷ 254 ∷ 253 ∷ [])
+    ∷ sampleOf (measures 32768) (1 ∷ 512 ∷ 1 ∷ 511 ∷ 510 ∷ 509 ∷ [])
+    ∷ sampleOf (measures 65536) (1 ∷ 1024 ∷ 2 ∷ 1022 ∷ 1021 ∷ 1020 ∷ [])
     -- (g) (h)
-    ∷ sample (firstCleared (0xFF ∷ 0xFF ∷ []) 9) (0x00 ∷ 0x7F ∷ [])
-    ∷ sample (toList (lowestFreeIn (0x00 ∷ 0x7F ∷ []) 16)) (10 ∷ [])
+    ∷ sampleOf (firstCleared (0xFF ∷ 0xFF ∷ []) 9) (0x00 ∷ 0x7F ∷ [])
+    ∷ sampleOf (toList (lowestFreeIn (0x00 ∷ 0x7F ∷ []) 16)) (10 ∷ [])
     -- (i), beside the same image with a bitmap that is in sequence
-    ∷ sample (refusal (unwritten 0xBF) 2 ∷ []) (5 ∷ [])
-    ∷ sample (refusal (unwritten 0x7F) 2 ∷ []) (0 ∷ [])
-    -- a whole block from an outside program: made, read, and with one bit off
-    ∷ sample (newBlock 292 page292) block292
-    ∷ sample (number block292 ∷ bit (rightChecksum block292) ∷ payload block292) (292 ∷ 1 ∷ page292)
-    ∷ sample (bit (rightChecksum (set block292 2 2)) ∷ []) (0 ∷ [])
+    ∷ sampleOf (refusal (unwritten 0xBF) 2 ∷ []) (5 ∷ [])
+    ∷ sampleOf (refusal (unwritten 0x7F) 2 ∷ []) (0 ∷ [])
+    -- a whole block from an outside program: made, read, and with one byte off
+    ∷ sampleOf (newBlock 292 page292) block292
+    ∷ sampleOf (number block292 ∷ bit (rightChecksum block292) ∷ payload block292) (292 ∷ 1 ∷ page292)
+    ∷ sampleOf (map (λ i. bit (rightChecksum (set block292 i 0))) (0 ∷ 1 ∷ 2 ∷ 61 ∷ 62 ∷ 63 ∷ [])) (0 ∷ 0 ∷ 0 ∷ 0 ∷ 0 ∷ 0 ∷ [])
     ∷ []
 
-pub samples-hold : map (λ (s : Sample). s .defined) samples ≡ map (λ (s : Sample). s .given) samples
+pub samples-hold : map (λ (s : Sample). s .defined) samples ≡ map (λ (s : Sample). s .bench) samples
 unfolding samples unwritten page292 block292 checksumOf crcFrom takes shifts shift sizes legalSize blocks bitmapBlocks firstBitmap capacity topNumber bitByte bitPlace bitWeight bitOf allocatedIn outOfSequence lowestFreeIn cleared firstCleared number payload rightChecksum newBlock word wordBytes magic headerNumber version bitmapOf refusal
 samples-hold = refl

@@ -2,13 +2,13 @@
 -- a test, which is the highest of a range. Assumes nothing.
 use Prim.Native.Nat.{ℕ, zero, suc, _+_, _≤_, _<_}
 use mathlib.Core.Path.{_≡_, refl, sym, ap, subst, _∙_}
-use mathlib.Core.Bool.{Bool, true, false, cond, _&&_, _||_}
+use mathlib.Core.Bool.{Bool, true, false, cond, _&&_, _||_, false≢true}
 use mathlib.Core.List.{List, [], _∷_, _++_, map}
 use mathlib.Core.Option.{Option, none, some, Option·map}
 use native.Mathlib.Omega.{arith}
 use native.Mathlib.Decide.{ℕ-discrete}
 use lib.Dec.{eqb}
-use borrow.Author.Tests.{eq-eqb, ne-eqb}
+use borrow.Author.Tests.{eqb-true, eq-eqb, ne-eqb}
 use Rattle.words.specs.Lists.{keep, anyOf, isSome, numbersFrom}
 use Rattle.words.specs.Search.{highest, lowest}
 use Rattle.words.proofs.ListLaws.{All, all-range, numbers-snoc}
@@ -16,17 +16,17 @@ use Rattle.words.proofs.ListLaws.{All, all-range, numbers-snoc}
 -- ---- the highest
 
 -- k is the highest of 1 to n that passes
-pub record Highest (p : ℕ → Bool) (n k : ℕ) : Type 0 where
+pub record IsHighest (p : ℕ → Bool) (n k : ℕ) : Type 0 where
   pub low : 1 ≤ k
   pub high : k ≤ n
   pub passes : p k ≡ true
   pub none-above : (j : ℕ) → k < j → j ≤ n → p j ≡ false
 
-pub highest-some : (p : ℕ → Bool) (n k : ℕ) → highest p n ≡ some k → Highest p n k
+pub highest-some : (p : ℕ → Bool) (n k : ℕ) → highest p n ≡ some k → IsHighest p n k
 highest-some p zero k e = let z : _≡_ {A = ℕ} 0 1 = cc in absurd (omega arith)
 highest-some p (suc n) k e = go (highest-some p n k) (p (suc n)) refl e
   where
-    go : (highest p n ≡ some k → Highest p n k) → (t : Bool) → p (suc n) ≡ t → cond t (some (suc n)) (highest p n) ≡ some k → Highest p (suc n) k
+    go : (highest p n ≡ some k → IsHighest p n k) → (t : Bool) → p (suc n) ≡ t → cond t (some (suc n)) (highest p n) ≡ some k → IsHighest p (suc n) k
     go ih true q f =
         let d : suc n ≡ k = cc in
         record {
@@ -39,15 +39,15 @@ highest-some p (suc n) k e = go (highest-some p n k) (p (suc n)) refl e
         let h = ih f in
         record { low = h .low; high = omega (arith, h .high); passes = h .passes; none-above = λ j a b. above h j a b (ℕ-discrete j (suc n)) }
       where
-        above : Highest p n k → (j : ℕ) → k < j → j ≤ suc n → Dec (j ≡ suc n) → p j ≡ false
+        above : IsHighest p n k → (j : ℕ) → k < j → j ≤ suc n → Dec (j ≡ suc n) → p j ≡ false
         above h j a b (yes d) = subst (λ (i : ℕ). p i ≡ false) (sym d) q
         above h j a b (no d) = h .none-above j a (omega (arith, d))
 
-pub highest-is : (p : ℕ → Bool) (n k : ℕ) → Highest p n k → highest p n ≡ some k
+pub highest-is : (p : ℕ → Bool) (n k : ℕ) → IsHighest p n k → highest p n ≡ some k
 highest-is p zero k h = absurd (omega (arith, h .low, h .high))
 highest-is p (suc n) k h = go (highest-is p n k) (ℕ-discrete k (suc n))
   where
-    go : (Highest p n k → highest p n ≡ some k) → Dec (k ≡ suc n) → highest p (suc n) ≡ some k
+    go : (IsHighest p n k → highest p n ≡ some k) → Dec (k ≡ suc n) → highest p (suc n) ≡ some k
     go ih (yes d) =
         let e : p (suc n) ≡ true = subst (λ (i : ℕ). p i ≡ true) d (h .passes) in
         rw e (ap (λ (i : ℕ). some i) (sym d))
@@ -81,17 +81,17 @@ highest-above p m (suc n) a h = go (highest-above p m n) (ℕ-discrete m (suc n)
 -- ---- the lowest
 
 -- k is the lowest of the n numbers from a on that passes
-pub record Lowest (p : ℕ → Bool) (a n k : ℕ) : Type 0 where
+pub record IsLowest (p : ℕ → Bool) (a n k : ℕ) : Type 0 where
   pub low : a ≤ k
   pub high : k < a + n
   pub passes : p k ≡ true
   pub none-below : (j : ℕ) → a ≤ j → j < k → p j ≡ false
 
-pub lowest-some : (p : ℕ → Bool) (a n k : ℕ) → lowest p a n ≡ some k → Lowest p a n k
+pub lowest-some : (p : ℕ → Bool) (a n k : ℕ) → lowest p a n ≡ some k → IsLowest p a n k
 lowest-some p a zero k e = let z : _≡_ {A = ℕ} 0 1 = cc in absurd (omega arith)
 lowest-some p a (suc n) k e = go (lowest-some p (suc a) n k) (p a) refl e
   where
-    go : (lowest p (suc a) n ≡ some k → Lowest p (suc a) n k) → (t : Bool) → p a ≡ t → cond t (some a) (lowest p (suc a) n) ≡ some k → Lowest p a (suc n) k
+    go : (lowest p (suc a) n ≡ some k → IsLowest p (suc a) n k) → (t : Bool) → p a ≡ t → cond t (some a) (lowest p (suc a) n) ≡ some k → IsLowest p a (suc n) k
     go ih true q f =
         let d : a ≡ k = cc in
         record {
@@ -109,15 +109,15 @@ lowest-some p a (suc n) k e = go (lowest-some p (suc a) n k) (p a) refl e
           none-below = λ j b c. below h j b c (ℕ-discrete j a);
         }
       where
-        below : Lowest p (suc a) n k → (j : ℕ) → a ≤ j → j < k → Dec (j ≡ a) → p j ≡ false
+        below : IsLowest p (suc a) n k → (j : ℕ) → a ≤ j → j < k → Dec (j ≡ a) → p j ≡ false
         below h j b c (yes d) = subst (λ (i : ℕ). p i ≡ false) (sym d) q
         below h j b c (no d) = h .none-below j (omega (arith, d)) c
 
-pub lowest-is : (p : ℕ → Bool) (a n k : ℕ) → Lowest p a n k → lowest p a n ≡ some k
+pub lowest-is : (p : ℕ → Bool) (a n k : ℕ) → IsLowest p a n k → lowest p a n ≡ some k
 lowest-is p a zero k h = absurd (omega (arith, h .low, h .high))
 lowest-is p a (suc n) k h = go (lowest-is p (suc a) n k) (ℕ-discrete a k)
   where
-    go : (Lowest p (suc a) n k → lowest p (suc a) n ≡ some k) → Dec (a ≡ k) → lowest p a (suc n) ≡ some k
+    go : (IsLowest p (suc a) n k → lowest p (suc a) n ≡ some k) → Dec (a ≡ k) → lowest p a (suc n) ≡ some k
     go ih (yes d) =
         let e : p a ≡ true = subst (λ (i : ℕ). p i ≡ true) (sym d) (h .passes) in
         rw e (ap (λ (i : ℕ). some i) d)
@@ -125,6 +125,16 @@ lowest-is p a (suc n) k h = go (lowest-is p (suc a) n k) (ℕ-discrete a k)
         let b : suc a ≤ k = omega (arith, d, h .low) in
         rw (h .none-below a (omega arith) (omega arith))
         (ih (record { low = b; high = omega (arith, h .high); passes = h .passes; none-below = λ j c e. h .none-below j (omega arith) e }))
+
+pub lowest-none : (p : ℕ → Bool) (a n : ℕ) → lowest p a n ≡ none → (k : ℕ) → a ≤ k → k < a + n → p k ≡ false
+lowest-none p a zero e k b c = absurd (omega arith)
+lowest-none p a (suc n) e k b c = go (lowest-none p (suc a) n) (p a) refl e (ℕ-discrete k a)
+  where
+    go : (lowest p (suc a) n ≡ none → (k : ℕ) → suc a ≤ k → k < suc a + n → p k ≡ false) → (t : Bool) → p a ≡ t
+        → cond t (some a) (lowest p (suc a) n) ≡ none → Dec (k ≡ a) → p k ≡ false
+    go ih true q f d = let z : _≡_ {A = ℕ} 0 1 = cc in absurd (omega arith)
+    go ih false q f (yes d) = subst (λ (i : ℕ). p i ≡ false) (sym d) q
+    go ih false q f (no d) = ih f k (omega (arith, d)) (omega arith)
 
 -- ---- the last element that passes
 
@@ -207,3 +217,35 @@ range-last n k (suc c) a b = go (λ h. range-last n (suc k) c h (omega arith)) (
     go : (suc k ≤ n → lastWith (λ i. eqb i n) (numbersFrom (suc k) c) ≡ some n) → Dec (k ≡ n) → lastWith (λ i. eqb i n) (numbersFrom k (suc c)) ≡ some n
     go ih (yes d) = rw (none-later (suc k) c (omega (arith, d)), eq-eqb k n d) (ap (λ (i : ℕ). some i) d)
     go ih (no d) = rw (ih (omega (arith, d)))
+
+-- ---- a number among those of a range that pass
+
+pub in-kept : (q : ℕ → Bool) (k a n : ℕ) → anyOf (eqb k) (keep q (numbersFrom a n)) ≡ true → (a ≤ k) × (k < a + n) × (q k ≡ true)
+in-kept q k a zero e = absurd (false≢true e)
+in-kept q k a (suc n) e = go (in-kept q k (suc a) n) (q a) refl e
+  where
+    go : (anyOf (eqb k) (keep q (numbersFrom (suc a) n)) ≡ true → (suc a ≤ k) × (k < suc a + n) × (q k ≡ true)) → (t : Bool) → q a ≡ t
+        → anyOf (eqb k) (cond t (a ∷ keep q (numbersFrom (suc a) n)) (keep q (numbersFrom (suc a) n))) ≡ true → (a ≤ k) × (k < a + suc n) × (q k ≡ true)
+    go ih true p f = here (eqb k a) refl f
+      where
+        here : (t : Bool) → eqb k a ≡ t → (t || anyOf (eqb k) (keep q (numbersFrom (suc a) n))) ≡ true → (a ≤ k) × (k < a + suc n) × (q k ≡ true)
+        here true d f =
+            let z = eqb-true k a d in
+            (omega (arith, z), omega (arith, z), ap q z ∙ p)
+        here false d f =
+            let h = ih f in
+            (omega (arith, h .0), omega (arith, h .1), h .2)
+    go ih false p f =
+        let h = ih f in
+        (omega (arith, h .0), omega (arith, h .1), h .2)
+
+pub kept-in : (q : ℕ → Bool) (k a n : ℕ) → a ≤ k → k < a + n → q k ≡ true → anyOf (eqb k) (keep q (numbersFrom a n)) ≡ true
+kept-in q k a zero b c e = absurd (omega arith)
+kept-in q k a (suc n) b c e = go (λ h. kept-in q k (suc a) n h (omega arith) e) (ℕ-discrete k a) (q a) refl
+  where
+    go : (suc a ≤ k → anyOf (eqb k) (keep q (numbersFrom (suc a) n)) ≡ true) → Dec (k ≡ a) → (t : Bool) → q a ≡ t
+        → anyOf (eqb k) (cond t (a ∷ keep q (numbersFrom (suc a) n)) (keep q (numbersFrom (suc a) n))) ≡ true
+    go ih (yes d) true p = rw (eq-eqb k a d)
+    go ih (yes d) false p = absurd (false≢true (sym p ∙ ap q (sym d) ∙ e))
+    go ih (no d) true p = rw (ne-eqb k a d) (ih (omega (arith, d)))
+    go ih (no d) false p = ih (omega (arith, d))

@@ -1,13 +1,14 @@
 -- Laws of runs of bytes and two-byte numbers. Assumes nothing.
-use Prim.Native.Nat.{ℕ, _+_, _/_, _%_}
+use Prim.Native.Nat.{ℕ, suc, _+_, _/_, _%_, _≤_, _<_}
 use mathlib.Core.Path.{_≡_, refl, sym, ap, _∙_}
-use mathlib.Core.Bool.{true, false≢true}
+use mathlib.Core.Bool.{true, false, false≢true, and-false}
 use mathlib.Core.List.{List, [], _∷_, _++_}
 use native.Mathlib.Omega.{arith}
 use lib.Dec.{eqb}
-use lib.ListN.{length, getD}
-use lib.Seq.{getD-at, getD-append-add}
-use borrow.Author.Tests.{eqb-true, eq-eqb}
+use native.Mathlib.Numerals.{add-one}
+use lib.ListN.{length, getD, drop, set, drop-of-length-le}
+use lib.Seq.{getD-at, getD-append-add, drop-cons}
+use borrow.Author.Tests.{eqb-true, eq-eqb, ne-eqb}
 use Rattle.words.specs.Words.{word, wordBytes, sameBytes}
 use Rattle.words.proofs.Bools.{and-true-left, and-true-right}
 
@@ -35,3 +36,35 @@ word-after front i n e =
     let b : getD (front ++ n % 256 ∷ n / 256 ∷ []) (i + 1) 0 ≡ n / 256 =
     rw (← e) (getD-append-add front (n % 256 ∷ n / 256 ∷ []) 1 0) in
     omega arith
+
+-- ---- as loops go through runs
+
+pub same-lengths : (a b : List ℕ) → (length a ≡ length b → ⊥) → sameBytes a b ≡ false
+same-lengths [] [] h = absurd (h refl)
+same-lengths [] (y ∷ b) h = refl
+same-lengths (x ∷ a) [] h = refl
+same-lengths (x ∷ a) (y ∷ b) h = rw (same-lengths a b (λ e. h (ap suc e)), and-false)
+
+-- at index i of two runs of one length
+module _ (a b : List ℕ) (i : ℕ) (e : length a ≡ length b) where
+  pub same-differs : i < length a → (getD a i 0 ≡ getD b i 0 → ⊥) → sameBytes (drop i a) (drop i b) ≡ false
+  same-differs ha n =
+      let hb : i < length b = omega arith in
+      rw (drop-cons a i 0, drop-cons b i 0, ne-eqb _ _ n)
+
+  pub same-next : i < length a → getD a i 0 ≡ getD b i 0 → sameBytes (drop i a) (drop i b) ≡ sameBytes (drop (i + 1) a) (drop (i + 1) b)
+  same-next ha q =
+      let hb : i < length b = omega arith in
+      rw (drop-cons a i 0, drop-cons b i 0, eq-eqb _ _ q, add-one i)
+
+  pub same-end : length a ≤ i → sameBytes (drop i a) (drop i b) ≡ true
+  same-end ha =
+      let hb : length b ≤ i = omega arith in
+      rw (drop-of-length-le a ha, drop-of-length-le b hb)
+
+-- both bytes of a part stored
+pub set-two : (part : List ℕ) (x y : ℕ) → length part ≡ 2 → set (set part 0 x) 1 y ≡ x ∷ y ∷ []
+set-two [] x y e = absurd (omega arith)
+set-two (a ∷ []) x y e = absurd (omega arith)
+set-two (a ∷ b ∷ []) x y e = refl
+set-two (a ∷ b ∷ d ∷ l) x y e = absurd (omega arith)

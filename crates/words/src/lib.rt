@@ -1,1 +1,57 @@
-// Runs of bytes, two-byte numbers and searches, as the formats use them: definitions and their laws. No code.
+// Runs of bytes and two-byte numbers. The definitions and laws in specs/ and proofs/ serve every format.
+ghost use mathlib.Core.Path.{_≡_};
+ghost use Prim.Native.Nat.{_+_, _<_};
+ghost use lib.ListN.{length, replicate};
+ghost use Rattle.words.specs.Words as bytes;
+
+// A byte as a wider number, with its bound.
+pub fn wide(x: u8) -> usize
+    ensures { λ r. ⌜ (r ≡ x) × (r < 256) ⌝ }
+{
+    x as usize
+}
+
+// The two-byte number at place i.
+pub fn word(s: &[u8], i: usize) -> usize
+    requires { ⌜ i + 1 < length (now s) ⌝ }
+    ensures { λ r. ⌜ (r ≡ bytes.word (now (s .entry)) i) × (r < 65536) ⌝ }
+{
+    wide(s[i]) + 256 * wide(s[i + 1])
+}
+
+// Writes a number as the two bytes of a part.
+pub fn put_word(part: &mut [u8], n: usize)
+    requires { ⌜ (length (now part) ≡ 2) × (n < 65536) ⌝ }
+    ensures { λ _. ⌜ now (part .exit) ≡ bytes.wordBytes n ⌝ }
+{
+    part[0] = (n % 256) as u8;
+    part[1] = (n / 256 % 256) as u8;
+}
+
+// Whether two runs have the same length and the same bytes.
+pub fn same(a: &[u8], b: &[u8]) -> bool
+    ensures { λ r. ⌜ r ≡ bytes.sameBytes (now (a .entry)) (now (b .entry)) ⌝ }
+{
+    if a.len() != b.len() {
+        return false;
+    }
+    let mut i = 0;
+    while i < a.len() {
+        if a[i] != b[i] {
+            return false;
+        }
+        i += 1;
+    }
+    true
+}
+
+// Makes every byte of a part the same.
+pub fn fill(part: &mut [u8], value: u8)
+    ensures { λ _. ⌜ now (part .exit) ≡ replicate (length (now (part .entry))) value ⌝ }
+{
+    let mut i = 0;
+    while i < part.len() {
+        part[i] = value;
+        i += 1;
+    }
+}
