@@ -3,3 +3,4 @@ pub mod ListLaws
 pub mod SearchLaws
 pub mod WordLaws
 pub mod Distinct
+pub mod LoopLaws
