@@ -114,12 +114,19 @@ abbrev pub log : List ℕ → ℕ → List (List ℕ)
 log image u = map (blockAt image) (numbersFrom 1 u)
 
 module _ (image : List ℕ) (n : ℕ) (u : ℕ) (h : u ≤ capacity (length image)) (b : UpTo (allocated image) (capacity (length image)) u) where
-  highest-log : highest (holds image n) (capacity (length image)) ≡ lastWith (λ k. matches n (blockAt image k)) (numbersFrom 1 u)
+  highest-used : highest (holds image n) (capacity (length image)) ≡ highest (λ k. matches n (blockAt image k)) u
   unfolding holds
-  highest-log =
+  highest-used =
       highest-above (holds image n) u (capacity (length image)) h (λ k lo hi. rw (b k (omega arith) hi, lt-leb k u lo))
       ∙ highest-same (holds image n) (λ k. matches n (blockAt image k)) u (λ k lo hi. rw (b k lo (omega arith), le-leb k u hi))
-      ∙ highest-last (λ k. matches n (blockAt image k)) u
+
+  -- the holder is searched for among the allocated blocks
+  pub holder-used : holder image n ≡ cond (legalNumber (length image) n) (highest (λ k. matches n (blockAt image k)) u) none
+  unfolding holder
+  holder-used = ap (λ (o : Option ℕ). cond (legalNumber (length image) n) o none) highest-used
+
+  highest-log : highest (holds image n) (capacity (length image)) ≡ lastWith (λ k. matches n (blockAt image k)) (numbersFrom 1 u)
+  highest-log = highest-used ∙ highest-last (λ k. matches n (blockAt image k)) u
 
   pub contents-log : contents image n ≡ cond (legalNumber (length image) n) (Option·map payload (lastWith (matches n) (log image u))) none
   unfolding contents holder

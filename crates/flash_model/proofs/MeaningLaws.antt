@@ -15,7 +15,7 @@ use Rattle.words.specs.Words.{word}
 use Rattle.checksum.specs.Crc.{checksumOf}
 use Rattle.words.proofs.Bools.{and-true-left, and-true-right}
 use Rattle.words.proofs.WordLaws.{same-eq, eq-same}
-use Rattle.words.proofs.SearchLaws.{lowest-some, lowest-is, lowest-none}
+use Rattle.words.proofs.SearchLaws.{lowest-some, lowest-is, lowest-none, lowest-nothing}
 use Rattle.flash_model.specs.Measures.{capacity, userBlocks}
 use Rattle.flash_model.specs.UserBlock.{rightChecksum}
 use Rattle.flash_model.specs.Update.{isHolder}
@@ -80,6 +80,14 @@ none-live image start s e n h = go (contents image n) refl
         let low = live-low image s n (λ d. some-there (some page) refl (sym q ∙ d)) in
         let f = lowest-none (passes image start) 0 (capacity (length image)) e n (omega arith) (omega (arith, low)) in
         absurd (true≢false (sym (rw (le-leb start n h, q)) ∙ f))
+
+pub live-none : (image : List ℕ) (start : ℕ) → ((n : ℕ) → start ≤ n → n < capacity (length image) → contents image n ≡ none) → lowestLive image start ≡ none
+unfolding lowestLive
+live-none image start h = lowest-nothing (passes image start) 0 (capacity (length image)) (λ n a b. go n (omega (arith, b)) (decLe start n))
+  where
+    go : (n : ℕ) → n < capacity (length image) → Dec (start ≤ n) → passes image start n ≡ false
+    go n b (yes a) = rw (h n a b, le-leb start n a)
+    go n b (no a) = rw (lt-leb start n (omega (arith, a)))
 
 pub next-live : (image : List ℕ) (start n : ℕ) → Sound image → (lowestLive image start ≡ some n) ↔ NextLiveIs image start n
 unfolding lowestLive

@@ -1,12 +1,12 @@
 -- How a loop goes through a range: one number more at a time, up to an end. Assumes nothing.
-use Prim.Native.Nat.{ℕ, suc, _+_, _-_, _≤_, _<_}
+use Prim.Native.Nat.{ℕ, zero, suc, _+_, _-_, _≤_, _<_}
 use mathlib.Core.Path.{_≡_, ap, _∙_}
 use mathlib.Core.Bool.{Bool, true, false}
 use mathlib.Core.List.{[], _∷_}
 use mathlib.Core.Option.{none, some}
 use native.Mathlib.Omega.{arith}
 use Rattle.words.specs.Lists.{anyOf, numbersFrom}
-use Rattle.words.specs.Search.{lowest}
+use Rattle.words.specs.Search.{highest, lowest}
 
 module _ (p : ℕ → Bool) (k e : ℕ) where
   -- what is left of a range is a number and what is left then
@@ -41,3 +41,20 @@ module _ (p : ℕ → Bool) (k e : ℕ) where
 
   pub lowest-end : e ≤ k → lowest p k (e - k) ≡ none
   lowest-end h = ap (lowest p k) (left-none h)
+
+-- ---- downwards
+
+pub highest-here : (p : ℕ → Bool) (k : ℕ) → 0 < k → p k ≡ true → highest p k ≡ some k
+highest-here p zero h q = absurd (omega arith)
+highest-here p (suc k) h q = rw q
+
+pub highest-next : (p : ℕ → Bool) (k : ℕ) → 0 < k → p k ≡ false → highest p k ≡ highest p (k - 1)
+highest-next p zero h q = absurd (omega arith)
+highest-next p (suc k) h q =
+    let e : k ≡ suc k - 1 = omega arith in
+    rw q (ap (highest p) e)
+
+pub highest-end : (p : ℕ → Bool) (k : ℕ) → k ≤ 0 → highest p k ≡ none
+highest-end p k h =
+    let e : k ≡ 0 = omega arith in
+    ap (highest p) e

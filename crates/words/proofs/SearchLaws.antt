@@ -43,6 +43,16 @@ highest-some p (suc n) k e = go (highest-some p n k) (p (suc n)) refl e
         above h j a b (yes d) = subst (λ (i : ℕ). p i ≡ false) (sym d) q
         above h j a b (no d) = h .none-above j a (omega (arith, d))
 
+pub highest-none : (p : ℕ → Bool) (n : ℕ) → highest p n ≡ none → (k : ℕ) → 1 ≤ k → k ≤ n → p k ≡ false
+highest-none p zero e k a b = absurd (omega arith)
+highest-none p (suc n) e k a b = go (highest-none p n) (p (suc n)) refl e (ℕ-discrete k (suc n))
+  where
+    go : (highest p n ≡ none → (k : ℕ) → 1 ≤ k → k ≤ n → p k ≡ false) → (t : Bool) → p (suc n) ≡ t
+        → cond t (some (suc n)) (highest p n) ≡ none → Dec (k ≡ suc n) → p k ≡ false
+    go ih true q f d = let z : _≡_ {A = ℕ} 0 1 = cc in absurd (omega arith)
+    go ih false q f (yes d) = subst (λ (i : ℕ). p i ≡ false) (sym d) q
+    go ih false q f (no d) = ih f k a (omega (arith, d))
+
 pub highest-is : (p : ℕ → Bool) (n k : ℕ) → IsHighest p n k → highest p n ≡ some k
 highest-is p zero k h = absurd (omega (arith, h .low, h .high))
 highest-is p (suc n) k h = go (highest-is p n k) (ℕ-discrete k (suc n))
@@ -125,6 +135,10 @@ lowest-is p a (suc n) k h = go (lowest-is p (suc a) n k) (ℕ-discrete a k)
         let b : suc a ≤ k = omega (arith, d, h .low) in
         rw (h .none-below a (omega arith) (omega arith))
         (ih (record { low = b; high = omega (arith, h .high); passes = h .passes; none-below = λ j c e. h .none-below j (omega arith) e }))
+
+pub lowest-nothing : (p : ℕ → Bool) (a n : ℕ) → ((k : ℕ) → a ≤ k → k < a + n → p k ≡ false) → lowest p a n ≡ none
+lowest-nothing p a zero h = refl
+lowest-nothing p a (suc n) h = rw (h a (omega arith) (omega arith)) (lowest-nothing p (suc a) n (λ k b c. h k (omega arith) (omega arith)))
 
 pub lowest-none : (p : ℕ → Bool) (a n : ℕ) → lowest p a n ≡ none → (k : ℕ) → a ≤ k → k < a + n → p k ≡ false
 lowest-none p a zero e k b c = absurd (omega arith)

@@ -1,0 +1,5 @@
+pub mod PartLaws
+pub mod UsableLaws
+pub mod OpenLaws
+pub mod PlaceLaws
+pub mod NextLaws

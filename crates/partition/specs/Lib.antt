@@ -1,0 +1,3 @@
+pub mod Usable
+pub mod Opening
+pub mod Listing

@@ -1,0 +1,39 @@
+-- One pass over the used blocks: the physical block of each number's contents, and the lowest live number.
+-- Assumes nothing.
+use Prim.Native.Nat.{ℕ}
+use mathlib.Core.Bool.{not, cond, _&&_}
+use mathlib.Core.List.{List, map}
+use mathlib.Core.Option.{Option, none, some}
+use lib.Dec.{eqb, ltb, leb}
+use lib.ListN.{length, set}
+use Rattle.words.specs.Lists.{keep}
+use Rattle.flash_model.specs.Measures.{logicalNumbers}
+use Rattle.flash_model.specs.UserBlock.{number, rightChecksum}
+use Rattle.flash_model.specs.Partition.{holder}
+use Rattle.partition.specs.declared.listing.Next.{Next}
+use Rattle.partition.specs.declared.listing.Next.the-variants.{Number, Nothing}
+
+-- A physical block as an entry of the area: 0 is none, since block 0 is the header.
+abbrev pub entryOf : Option ℕ → ℕ
+entryOf none = 0
+entryOf (some k) = k
+
+-- The entry of each logical number, rising.
+unfoldable pub places : List ℕ → List ℕ
+places image = map (λ n. entryOf (holder image n)) (logicalNumbers (length image))
+
+-- The area with block k entered at its number, if that is below the end and the checksum is right.
+unfoldable pub placed : ℕ → ℕ → List ℕ → List ℕ → List ℕ
+placed end k block area = cond (ltb (number block) end && rightChecksum block) (set area (number block) k) area
+
+-- How many entries are not 0.
+unfoldable pub nonzero : List ℕ → ℕ
+nonzero area = length (keep (λ entry. not (eqb entry 0)) area)
+
+-- The block's number, if it is lower than the best so far, not below the start, and the checksum is right.
+unfoldable pub lowered : ℕ → List ℕ → ℕ → ℕ
+lowered start block best = cond (leb start (number block) && (ltb (number block) best && rightChecksum block)) (number block) best
+
+abbrev pub next : Option ℕ → Next
+next none = Nothing
+next (some n) = Number n

@@ -1,0 +1,4 @@
+// Reading a partition: its refusals, and where contents are.
+pub mod blocks;
+pub mod listing;
+pub mod opening;

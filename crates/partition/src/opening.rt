@@ -1,0 +1,49 @@
+// What every call on a partition begins with: refusals 1 to 5.
+use bitmap::Found;
+use measures::Measures;
+use words::same;
+ghost use mathlib.Core.Path.{_≡_};
+ghost use Rattle.partition.specs.Opening.{headerRefusal, opened};
+
+// The refusal's number, or the measures and how many user blocks are allocated.
+pub enum Opened {
+    Refused(u8),
+    Open(Measures, usize),
+}
+
+// Refusals 1 to 4, or 0.
+fn header_refusal(image: &[u8], partition: u8) -> u8
+    ensures { λ r. ⌜ r ≡ headerRefusal (now (image .entry)) partition ⌝ }
+{
+    if !measures::legal_size(image.len()) {
+        return 1;
+    }
+    if !same(&image[0..16], b"KATANA_FLASH____") {
+        return 2;
+    }
+    if image[16] != partition {
+        return 3;
+    }
+    if 1 < image[17] {
+        return 4;
+    }
+    0
+}
+
+// The bitmap is looked at once, here: on a sound partition the allocated blocks are those from 1 to the count.
+pub fn open(image: &[u8], partition: u8) -> Opened
+    ensures { λ r. ⌜ r ≡ opened (now (image .entry)) partition ⌝ }
+{
+    let refused = header_refusal(image, partition);
+    if refused != 0 {
+        return Opened::Refused(refused);
+    }
+    let m = Measures::of(image.len());
+    let Found::At(k) = bitmap::lowest_free(image, m) else {
+        return Opened::Open(m, m.capacity());
+    };
+    if bitmap::allocated_from(image, m, k) {
+        return Opened::Refused(5);
+    }
+    Opened::Open(m, k - 1)
+}
