@@ -32,22 +32,22 @@ measured-of size e =
     let c : size ≤ 1048576 = leb-true size 1048576 (and-true-right (leb 16384 size) (leb size 1048576) f) in
     record { first-bitmap = omega arith; top-number = omega arith; whole = omega arith; bits-enough = omega arith; two-bytes = omega arith; bounded = c }
 
--- each length of the table is such a number: computed over the table
-every-fits : (l : List ℕ) → anyOf (λ x. not (fitting x)) l ≡ false → (size : ℕ) → anyOf (eqb size) l ≡ true → fitting size ≡ true
-every-fits [] e size h = absurd (false≢true h)
-every-fits (x ∷ l) e size h =
-    go (every-fits l (or-false-right (not (fitting x)) (anyOf (λ x. not (fitting x)) l) e) size) (eqb size x) refl h
+-- what a test computes over the whole table of lengths holds of each of them
+pub in-table : (p : ℕ → Bool) (l : List ℕ) → anyOf (λ x. not (p x)) l ≡ false → (size : ℕ) → anyOf (eqb size) l ≡ true → p size ≡ true
+in-table p [] e size h = absurd (false≢true h)
+in-table p (x ∷ l) e size h =
+    go (in-table p l (or-false-right (not (p x)) (anyOf (λ x. not (p x)) l) e) size) (eqb size x) refl h
   where
-    here : fitting x ≡ true
-    here = not-false (fitting x) (or-false-left (not (fitting x)) (anyOf (λ x. not (fitting x)) l) e)
+    here : p x ≡ true
+    here = not-false (p x) (or-false-left (not (p x)) (anyOf (λ x. not (p x)) l) e)
 
-    go : (anyOf (eqb size) l ≡ true → fitting size ≡ true) → (t : Bool) → eqb size x ≡ t → (t || anyOf (eqb size) l) ≡ true → fitting size ≡ true
-    go ih true q h = ap fitting (eqb-true size x q) ∙ here
+    go : (anyOf (eqb size) l ≡ true → p size ≡ true) → (t : Bool) → eqb size x ≡ t → (t || anyOf (eqb size) l) ≡ true → p size ≡ true
+    go ih true q h = ap p (eqb-true size x q) ∙ here
     go ih false q h = ih h
 
 pub measures-of : (size : ℕ) → legalSize size ≡ true → Measured size
 unfolding legalSize sizes fitting
-measures-of size h = measured-of size (every-fits sizes refl size h)
+measures-of size h = measured-of size (in-table fitting sizes refl size h)
 
 -- ---- legal numbers are those below the capacity
 

@@ -104,6 +104,11 @@ module _ (image : List ℕ) (end k : ℕ) (rest : List ℕ) where
       go false p u q =
           ap (λ (l : List ℕ). l ++ rest) (passed-over (λ n h. rw (ne-eqb (number (blockAt image (suc k))) n (λ e. omega (arith, e, h, ltb-false (number (blockAt image (suc k))) end p)))))
 
+pub places-length : (image : List ℕ) → length (places image) ≡ capacity (length image)
+unfolding places logicalNumbers
+places-length image =
+    length-map (numbersFrom 0 (capacity (length image))) (λ n. entryOf (holder image n)) ∙ numbers-length 0 (capacity (length image))
+
 -- the same, as the loop goes
 pub entered-first : (image : List ℕ) (end : ℕ) (area rest : List ℕ) → area ≡ replicate end 0 ++ rest → area ≡ entered image end (1 - 1) ++ drop end area
 entered-first image end area rest e =

@@ -1,0 +1,43 @@
+-- What moving, writing and finishing come to: the compacted image. Assumes nothing.
+use Prim.Native.Nat.{ℕ, suc, _+_, _*_, _-_, _≤_}
+use mathlib.Core.Path.{_≡_, refl, sym, ap, _∙_}
+use mathlib.Core.Bool.{true}
+use mathlib.Core.List.{List, [], _∷_, _++_, append-assoc, append-nil}
+use native.Mathlib.Omega.{arith}
+use lib.Dec.{leb}
+use lib.ListN.{length, take, drop, replicate, length-append}
+use lib.Seq.{take-at, length-take-le}
+use borrow.Author.Tests.{leb-true}
+use Rattle.words.specs.Lists.{concat}
+use Rattle.flash_model.specs.Measures.{sizes, legalSize, blocks, bitmapBlocks, firstBitmap, capacity}
+use Rattle.flash_model.proofs.MeasureLaws.{in-table}
+use Rattle.flash_model.specs.Update.{bitsCleared, withBlock, rewritten, compacted}
+
+-- the front is the header block and the kept blocks, all else FF, and the bits of the kept blocks are cleared
+pub finished : (image front : List ℕ) (kept : List (List ℕ)) (size next : ℕ) → length image ≡ size → front ≡ take 64 image ++ concat kept → next ≡ suc (length kept)
+    → bitsCleared (front ++ replicate (size - next * 64) 255) (next - 1) ≡ compacted image kept
+unfolding compacted rewritten
+finished image front kept size next l f n =
+    let c : next - 1 ≡ length kept = omega arith in
+    let s : size - next * 64 ≡ length image - 64 * suc (length kept) = omega (arith, l, n) in
+    rw (f, s, c)
+
+-- one block more behind the front
+concat-snoc : (kept : List (List ℕ)) (new : List ℕ) → concat (kept ++ new ∷ []) ≡ concat kept ++ new
+concat-snoc [] new = append-nil new
+concat-snoc (b ∷ kept) new = ap (λ (l : List ℕ). b ++ l) (concat-snoc kept new) ∙ sym (append-assoc b (concat kept) new)
+
+pub front-more : (image moved new : List ℕ) (kept : List (List ℕ)) (next : ℕ) → next * 64 + 64 ≤ length moved → length new ≡ 64
+    → take (next * 64) moved ≡ take 64 image ++ concat kept
+    → take ((next + 1) * 64) (withBlock moved next new) ≡ take 64 image ++ concat (kept ++ new ∷ [])
+unfolding withBlock
+front-more image moved new kept next h l e =
+    let a : length (take (next * 64) moved) ≡ next * 64 = length-take-le (next * 64) moved (omega arith) in
+    let b : length (take (next * 64) moved ++ new) ≡ (next + 1) * 64 = length-append (take (next * 64) moved) new ∙ omega (arith, a, l) in
+    take-at (take (next * 64) moved ++ new) (drop (next * 64 + 64) moved) ((next + 1) * 64) b
+    ∙ rw (e, concat-snoc kept new) (append-assoc (take 64 image) (concat kept) new)
+
+-- the area has an entry for each number of any partition: computed over the table of lengths
+pub numbers-enough : (size : ℕ) → legalSize size ≡ true → capacity size ≤ 1021
+unfolding legalSize sizes capacity firstBitmap blocks bitmapBlocks
+numbers-enough size h = leb-true (capacity size) 1021 (in-table (λ n. leb (capacity n) 1021) sizes refl size h)

@@ -1,0 +1,4 @@
+pub mod PartLaws
+pub mod OverLaws
+pub mod BitWrites
+pub mod NamedLaws

@@ -1,0 +1,22 @@
+-- A user block lies inside the image that the measures are of. Assumes nothing.
+use Prim.Native.Nat.{ℕ, _+_, _*_, _≤_, _<_}
+use mathlib.Core.List.{List}
+use native.Mathlib.Omega.{arith}
+use lib.ListN.{length}
+use Rattle.flash_model.specs.Measures.{firstBitmap, capacity}
+use Rattle.bitmap.specs.Over.{Over}
+use Rattle.bitmap.proofs.BitReads.{over-measured}
+
+pub record Within (image : List ℕ) (size k : ℕ) : Type 0 where
+  pub before-bitmap : k < firstBitmap size
+  pub inside : k * 64 + 64 ≤ length image
+  pub small : k < 65536
+
+pub within : {image : List ℕ} {size : ℕ} (k : ℕ) → Over image size → k ≤ capacity size → Within image size k
+within {image} {size} k o h =
+    let m = over-measured image size o in
+    record {
+      before-bitmap = omega (arith, m .first-bitmap);
+      inside = omega (arith, o .has-size, m .whole);
+      small = omega (arith, m .two-bytes);
+    }

@@ -1,0 +1,75 @@
+-- What is left of a list when a part of it, lent and written, is back. Assumes nothing.
+use Prim.Native.Nat.{ℕ, _+_, _-_, _*_, _≤_, _<_}
+use mathlib.Core.Path.{_≡_, sym, ap, _∙_}
+use mathlib.Core.List.{List, _++_, append-assoc, append-nil}
+use native.Mathlib.Omega.{arith}
+use native.Mathlib.Numerals.{add-one}
+use lib.ListN.{length, getD, take, drop, set, replicate, length-append, length-take, length-drop, drop-of-length-le}
+use lib.Seq.{take-at, drop-at, take-all, drop-length, paste, paste-suc, drop-paste, getD-drop}
+use borrow.Rule.Slice.PartMut.{midOf, putMid, post-is, mid-len}
+use Rattle.words.specs.Words.{wordBytes}
+use Rattle.checksum.specs.Crc.{checksumOf}
+use Rattle.flash_model.specs.UserBlock.{newBlock}
+use Rattle.flash_model.specs.Update.{withBlock}
+
+-- the next part behind those that are written
+laid : (done part rest : List ℕ) (a k : ℕ) → length done ≡ a → putMid a k (done ++ rest) part ≡ done ++ part ++ drop k rest
+laid done part rest a k e =
+    rw (take-at done rest a e, drop-at done rest a e) (sym (append-assoc done part (drop k rest)))
+
+pub put-block : (image part : List ℕ) (k : ℕ) → putMid (k * 64) (k * 64 + 64 - k * 64) image part ≡ withBlock image k part
+unfolding withBlock
+put-block image part k =
+    rw (post-is (k * 64) (k * 64 + 64) image (omega arith)) (sym (append-assoc (take (k * 64) image) part (drop (k * 64 + 64) image)))
+
+-- the whole of one run copied over another of its length
+copied : (src dst : List ℕ) → length src ≡ length dst → take (length src) src ++ drop (length src) dst ≡ src
+copied src dst e =
+    let h : length dst ≤ length src = omega arith in
+    rw (drop-of-length-le dst h) (append-nil _ ∙ take-all (length src) src (omega arith))
+
+-- number, page and checksum over the three parts of a block
+pub written : {first second third : List ℕ} {sum : ℕ} (block page : List ℕ) (n : ℕ)
+    → length block ≡ 64 → length page ≡ 60
+    → first ≡ wordBytes n
+    → second ≡ take (length page) page ++ drop (length page) (midOf 2 60 (putMid 0 2 block first))
+    → sum ≡ checksumOf (take 62 (putMid 2 60 (putMid 0 2 block first) second))
+    → third ≡ wordBytes sum
+    → putMid 62 2 (putMid 2 60 (putMid 0 2 block first) second) third ≡ newBlock n page
+unfolding newBlock wordBytes
+written {first} {second} {third} {sum} block page n lb lp e1 e2 es e3 =
+    let rest = drop 2 block in
+    let end = drop 60 rest in
+    let l1 : length first ≡ 2 = ap length e1 in
+    let lm : length (midOf 2 60 (first ++ rest)) ≡ 60 = rw (drop-at first rest 2 l1) (simp (length-take, length-drop) (omega arith)) in
+    let s : second ≡ page = e2 ∙ copied page (midOf 2 60 (first ++ rest)) (lp ∙ sym lm) in
+    let l2 : length (first ++ second) ≡ 62 = length-append first second ∙ omega (arith, ap length s) in
+    let two : putMid 2 60 (first ++ rest) second ≡ first ++ second ++ end = laid first second rest 2 60 l1 in
+    let sum-is : sum ≡ checksumOf (first ++ second) = es ∙ ap checksumOf (ap (take 62) two ∙ take-at (first ++ second) end 62 l2) in
+    let le : length end ≤ 2 = simp length-drop (omega arith) in
+    let all : first ++ second ++ third ≡ wordBytes n ++ page ++ wordBytes (checksumOf (wordBytes n ++ page)) = cc in
+    ap (λ (l : List ℕ). putMid 62 2 l third) two
+    ∙ laid (first ++ second) third end 62 2 l2
+    ∙ rw (drop-of-length-le end le) (append-nil _ ∙ all)
+
+-- a part up to the end, filled
+pub filled : {part : List ℕ} {at : ℕ} (image : List ℕ) (size next v : ℕ) → length image ≡ size → next * 64 ≤ size → at ≡ next * 64
+    → part ≡ replicate (length (midOf at (length image - at) image)) v
+    → putMid at (length image - at) image part ≡ take (next * 64) image ++ replicate (size - next * 64) v
+filled {part} {at} image size next v l h e p =
+    let i : next * 64 ≤ length image = omega arith in
+    let q : part ≡ replicate (length image - at) v = p ∙ ap (λ (n : ℕ). replicate n v) (mid-len at (length image) image (omega arith)) in
+    rw (post-is at (length image) image (omega arith), drop-length image, append-nil, q, e, l)
+
+-- ---- a copy downwards inside one list: what is read has not been written yet
+
+pub move-step : (s : List ℕ) (a b i : ℕ) → b ≤ a → a + i < length s
+    → set (paste s b (drop a s) i) (b + i) (getD (paste s b (drop a s) i) (a + i) 0) ≡ paste s b (drop a s) (i + 1)
+move-step s a b i down h =
+    let p = paste s b (drop a s) i in
+    let l : length (drop a s) ≡ length s - a = length-drop a s in
+    let e : b + i + (a - b) ≡ a + i = omega arith in
+    let read : getD p (a + i) 0 ≡ getD (drop a s) i 0 =
+    rw (← e, ← getD-drop (b + i) p (a - b) 0, drop-paste s b (drop a s) i (omega arith) (omega arith), getD-drop (b + i) s (a - b) 0, e)
+    (sym (getD-drop a s i 0)) in
+    rw (read, add-one i) (paste-suc s b (drop a s) i 0 (omega arith) (omega arith))

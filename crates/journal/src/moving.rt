@@ -1,0 +1,86 @@
+// The used blocks that an area of places names, moved down to 1, 2, 3 and on; then FF, and the bits of what stands there.
+use crate::append::clear_bit;
+use measures::BLOCK;
+use measures::Measures;
+use words::fill;
+use words::word;
+ghost use mathlib.Core.Path.{_≡_};
+ghost use mathlib.Core.List.{_++_};
+ghost use Prim.Native.Nat.{_+_, _-_, _*_, _≤_};
+ghost use lib.ListN.{length, take, replicate};
+ghost use Rattle.flash_model.specs.Measures.{capacity};
+ghost use Rattle.flash_model.specs.Partition.{blockAt};
+ghost use Rattle.flash_model.specs.Update as model;
+ghost use Rattle.bitmap.specs.Over.{Over};
+ghost use Rattle.journal.specs.Moving.{Moved, AllMoved};
+
+// Block `from` copied over block `to`, which is not above it.
+fn move_block(image: &mut [u8], from: usize, to: usize)
+    requires { ⌜ (to ≤ from) × (from * 64 + 64 ≤ length (now image)) ⌝ }
+    ensures { λ _. ⌜ now (image .exit) ≡ model.withBlock (now (image .entry)) to (blockAt (now (image .entry)) from) ⌝ }
+{
+    let a = from * BLOCK;
+    let b = to * BLOCK;
+    let mut i = 0;
+    while i < 64 {
+        image[b + i] = image[a + i];
+        i += 1;
+    }
+}
+
+// Block k moved down to `to`, if the area names it for its number. The answer is the next block to fill.
+fn keep_block(image: &mut [u8], m: Measures, area: &[u16], k: usize, to: usize) -> usize
+    requires { ⌜ Over (now image) (m .size) ⌝ }
+    requires { ⌜ (to ≤ k) × (k ≤ capacity (m .size)) × (capacity (m .size) ≤ length (now area)) ⌝ }
+    ensures { λ r. ⌜ Moved (now (area .entry)) (m .size) k to (now (image .entry)) (now (image .exit)) r ⌝ }
+{
+    let at = m.start(k);
+    let number = word(&image[at..], 0);
+    if !m.legal_number(number) {
+        return to;
+    }
+    if area[number] as usize != k {
+        return to;
+    }
+    move_block(image, k, to);
+    to + 1
+}
+
+// The used blocks that the area names, at 1, 2, 3 and on. The answer is the next block to fill.
+pub fn keep_blocks(image: &mut [u8], m: Measures, used: usize, area: &[u16]) -> usize
+    requires { ⌜ Over (now image) (m .size) ⌝ }
+    requires { ⌜ (used ≤ capacity (m .size)) × (capacity (m .size) ≤ length (now area)) ⌝ }
+    ensures { λ r. ⌜ AllMoved (now (area .entry)) (m .size) used (now (image .entry)) (now (image .exit)) r ⌝ }
+{
+    let mut to: usize = 1;
+    let mut k: usize = 1;
+    while k <= used {
+        to = keep_block(image, m, area, k, to);
+        k += 1;
+    }
+    to
+}
+
+// The bits of the blocks 1 to n are cleared.
+fn clear_bits(image: &mut [u8], m: Measures, n: usize)
+    requires { ⌜ Over (now image) (m .size) ⌝ }
+    requires { ⌜ n ≤ capacity (m .size) ⌝ }
+    ensures { λ _. ⌜ now (image .exit) ≡ model.bitsCleared (now (image .entry)) n ⌝ }
+{
+    let mut k: usize = 1;
+    while k <= n {
+        clear_bit(image, m, k);
+        k += 1;
+    }
+}
+
+// FF from block `next` to the end, but for the bits of the blocks below it.
+pub fn finish(image: &mut [u8], m: Measures, next: usize)
+    requires { ⌜ Over (now image) (m .size) ⌝ }
+    requires { ⌜ (1 ≤ next) × (next ≤ capacity (m .size) + 1) ⌝ }
+    ensures { λ _. ⌜ now (image .exit) ≡ model.bitsCleared (take (next * 64) (now (image .entry)) ++ replicate (m .size - next * 64) 255) (next - 1) ⌝ }
+{
+    let at = m.start(next);
+    fill(&mut image[at..], 255);
+    clear_bits(image, m, next - 1);
+}
