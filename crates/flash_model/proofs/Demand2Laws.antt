@@ -29,7 +29,7 @@ use Rattle.flash_model.proofs.SaveLaws.{append-blank, blank-append, hol
 use Rattle.flash_model.proofs.CallLaws.{answered-code, accepted-image, accepted-values, accepted-buffers, refused-image, refused-buffers, refused-values, first-zero, first-refused, unrefused-sound, read-rows, save-rows, same-seen, seen-same}
 use Rattle.flash_model.proofs.MeaningLaws.{contents-length, next-live, none-live}
 
-refused-first : (image : List ℕ) (c : Call) → refusal image (namedBy c) ≢ 0 → codeOf image c ≡ refusal image (namedBy c)
+pub refused-first : (image : List ℕ) (c : Call) → refusal image (namedBy c) ≢ 0 → codeOf image c ≡ refusal image (namedBy c)
 unfolding codeOf
 refused-first image (onPage (read partition n buffer)) h = first-refused (refusal image partition) _ h
 refused-first image (onPage (save partition n expected page)) h = first-refused (refusal image partition) _ h

@@ -1,0 +1,111 @@
+-- Reading: each way out of the functions is a row of the table. Assumes nothing.
+use Prim.Native.Nat.{ℕ, suc, _+_, _-_, _≤_}
+use mathlib.Core.Path.{_≡_, refl, sym, ap, _∙_}
+use mathlib.Core.Bool.{Bool, true, false}
+use mathlib.Core.List.{List, _++_, append-nil}
+use mathlib.Core.Option.{Option, none, some, Option·map}
+use native.Mathlib.Omega.{arith}
+use lib.ListN.{length, getD, take, drop, length-take, length-drop, drop-of-length-le}
+use lib.Seq.{take-at, take-take, take-all}
+use borrow.Author.Tests.{ne-eqb}
+use Rattle.words.proofs.ListLaws.{take-drop}
+use Rattle.flash_model.specs.Measures.{capacity, legalNumber}
+use Rattle.flash_model.specs.UserBlock.{payload}
+use Rattle.flash_model.specs.Partition.{blockAt, version, contents, holder, live, used}
+use Rattle.flash_model.proofs.HolderLaws.{holder-held}
+use Rattle.bitmap.specs.Over.{found}
+use Rattle.bitmap.specs.declared.Found.the-variants.{At, Nothing}
+use Rattle.partition.specs.Usable.{Usable}
+use Rattle.partition.specs.Listing.{places, nonzero, next}
+use Rattle.partition.specs.declared.listing.Next.the-variants as nexts
+use Rattle.partition.proofs.OpenLaws.{found-at, found-nothing}
+use Rattle.partition.proofs.PlaceLaws.{places-length, live-entries}
+use Rattle.flash.specs.Answers.{countsOf, nextOf, readRest, readBuffer}
+use Rattle.flash.specs.declared.Counts.{Counts}
+use Rattle.flash.specs.declared.NextLive.the-variants as nextLive
+
+-- ---- the next live number
+
+pub next-found : (o : Option ℕ) (n : ℕ) → next o ≡ nexts.Number n → nextLive.Number n ≡ nextOf o
+next-found none n e = let z : _≡_ {A = ℕ} 0 1 = cc in absurd (omega arith)
+next-found (some m) n e = let z : m ≡ n = cc in ap (λ (i : ℕ). nextLive.Number i) (sym z)
+
+pub next-missing : (o : Option ℕ) → next o ≡ nexts.Nothing → nextLive.Refused 7 ≡ nextOf o
+next-missing none e = refl
+next-missing (some m) e = let z : _≡_ {A = ℕ} 0 1 = cc in absurd (omega arith)
+
+-- ---- the counts
+
+pub counts-are : (image : List ℕ) (size count : ℕ) → Usable image size count → (area rest : List ℕ) → area ≡ places image ++ rest
+    → (cap n : ℕ) → cap ≡ capacity size → n ≡ nonzero (take cap area)
+    → _≡_ {A = Counts} (record { version = getD image 17 0; capacity = cap; used = count; live = n }) (countsOf image)
+unfolding countsOf version
+counts-are image size count u area rest e cap n c l =
+    let s : cap ≡ capacity (length image) = c ∙ ap capacity (sym (u .has-size)) in
+    let f : n ≡ live image = l ∙ rw (e, s, take-at (places image) rest (capacity (length image)) (places-length image)) (live-entries image) in
+    rw (s, f, u .used-is)
+
+-- ---- a number's contents
+
+pub contents-at : (image : List ℕ) (n k : ℕ) → found (holder image n) ≡ At k → contents image n ≡ some (payload (blockAt image k))
+unfolding contents
+contents-at image n k e = ap (Option·map (λ j. payload (blockAt image j))) (found-at (holder image n) k e)
+
+pub contents-none : (image : List ℕ) (n : ℕ) → found (holder image n) ≡ Nothing → contents image n ≡ none
+unfolding contents
+contents-none image n e = ap (Option·map (λ j. payload (blockAt image j))) (found-nothing (holder image n) e)
+
+pub found-high : (image : List ℕ) (size count : ℕ) → Usable image size count → (n k : ℕ) → found (holder image n) ≡ At k → k ≤ capacity size
+found-high image size count u n k e =
+    omega (arith, holder-held image n k (found-at (holder image n) k e) .highest-one .high, ap capacity (u .has-size))
+
+-- the payload is handed on from the part that begins with the block
+pub payload-part : (part block : List ℕ) → take 64 part ≡ block → take (62 - 2) (drop 2 part) ≡ payload block
+unfolding payload
+payload-part part block e =
+    take-drop 2 60 part ∙ ap (drop 2) (sym (take-take (2 + 60) 64 part (omega arith))) ∙ sym (take-drop 2 60 (take 64 part)) ∙ ap (λ (b : List ℕ). take 60 (drop 2 b)) e
+
+pub part-60 : (part : List ℕ) → 64 ≤ length part → length (take (62 - 2) (drop 2 part)) ≡ 60
+part-60 part h = simp (length-take, length-drop) (omega arith)
+
+-- ---- read
+
+module _ (image : List ℕ) (size count : ℕ) (u : Usable image size count) (n : ℕ) (buffer : List ℕ) where
+  pub record ReadAs (code : ℕ) (left : List ℕ) : Type 0 where
+    pub code-is : code ≡ readRest image n buffer
+    pub buffer-is : left ≡ readBuffer image n buffer
+
+  refused : (c : ℕ) → readRest image n buffer ≡ suc c → ReadAs (suc c) buffer
+  unfolding readBuffer
+  refused c e = record { code-is = sym e; buffer-is = rw (e, ne-eqb (suc c) 0 (λ z. omega (arith, z))) }
+
+  here : (b : Bool) → legalNumber size n ≡ b → legalNumber (length image) n ≡ b
+  here b e = ap (λ (s : ℕ). legalNumber s n) (u .has-size) ∙ e
+
+  pub read-6 : legalNumber size n ≡ false → ReadAs 6 buffer
+  unfolding readRest
+  read-6 e = refused 5 (rw (here false e))
+
+  module _ (legal : legalNumber size n ≡ true) where
+    pub read-8 : (length buffer ≡ 60 → ⊥) → ReadAs 8 buffer
+    unfolding readRest
+    read-8 h = refused 7 (rw (here true legal, ne-eqb (length buffer) 60 h))
+
+    module _ (l : length buffer ≡ 60) where
+      pub read-7 : contents image n ≡ none → ReadAs 7 buffer
+      unfolding readRest
+      read-7 e = refused 6 (rw (here true legal, l, e))
+
+      done : (page : List ℕ) → contents image n ≡ some page → ReadAs 0 page
+      unfolding readRest readBuffer
+      done page e = record { code-is = rw (here true legal, l, e); buffer-is = rw (here true legal, l, e) }
+
+      -- the buffer after the payload is copied over all of it
+      pub read-0 : (k : ℕ) → found (holder image n) ≡ At k → (src : List ℕ) → src ≡ payload (blockAt image k) → length src ≡ 60
+          → (left : List ℕ) → left ≡ take (length src) src ++ drop (length src) buffer → ReadAs 0 left
+      read-0 k f src e s left h =
+          let t : length src ≤ 60 = omega arith in
+          let d : length buffer ≤ 60 = omega arith in
+          let w : take (length src) src ++ drop (length src) buffer ≡ src = rw (s, take-all 60 src t, drop-of-length-le buffer d) (append-nil src) in
+          let a : left ≡ payload (blockAt image k) = h ∙ w ∙ e in
+          record { code-is = done _ (contents-at image n k f) .code-is; buffer-is = a ∙ done _ (contents-at image n k f) .buffer-is }

@@ -1,0 +1,54 @@
+-- `erase` meets its contract. Assumes nothing.
+use mathlib.Core.Path.{sym, _∙_}
+use Rattle.flash.proofs.AnswerLaws.{opened-usable, refused-by, erase-done}
+use Rattle.flash_model.specs.Calls.{Call.onWhole, WholeCall.erase}
+use borrow.Author.Needs.{needs}
+use Rattle.flash.proofs.erase.Statement.{statement}
+use Rattle.flash.proofs.erase.Tie as tie
+
+open-requires : tie.Need-open-requires
+open-requires c κs = search needs
+
+enum-known-refused : tie.Need-enum-known-refused
+enum-known-refused c = search needs
+
+enum-known-m : tie.Need-enum-known-m
+enum-known-m c = search needs
+
+erase-requires : tie.Need-erase-requires
+erase-requires c κs =
+    let a = c .before .before .before .before .before .before .before in
+    let i = a .args .image .now in
+    opened-usable i (a .args .partition) _ _ (sym (c .before .before .before .before .«open» .ensures) ∙ c .before .before .m .given .1) .1
+
+same-length : tie.Need-same-length
+same-length c = search needs
+
+returns : tie.Need-returns
+returns c =
+    let a = c .before .before .before .before .before .before in
+    let i = a .args .image .now in
+    refused-by i (onWhole (erase (a .args .partition))) _ (sym (c .before .before .before .«open» .ensures) ∙ c .before .refused .given .1)
+
+same-length-2 : tie.Need-same-length-2
+same-length-2 c = search needs
+
+returns-2 : tie.Need-returns-2
+returns-2 c =
+    let a = c .before .before .before .before .before .before .before .before .before .before in
+    let i = a .args .image .now in
+    let passed = opened-usable i (a .args .partition) _ _ (sym (c .before .before .before .before .before .before .before .«open» .ensures) ∙ c .before .before .before .before .before .m .given .1) .0 in
+    erase-done i (a .args .partition) passed _ (c .before .before .erase .ensures)
+
+pub erase-spec : {M : Type 1} → statement M
+erase-spec =
+    tie.close
+    (tie.spec
+    open-requires
+    enum-known-refused
+    enum-known-m
+    erase-requires
+    same-length
+    returns
+    same-length-2
+    returns-2)

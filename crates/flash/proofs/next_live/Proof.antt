@@ -1,0 +1,40 @@
+-- `next_live` meets its contract. Assumes nothing.
+use mathlib.Core.Path.{sym, _∙_}
+use Rattle.flash.proofs.AnswerLaws.{opened-usable, refused-by, next-done}
+use Rattle.flash_model.specs.Calls.{Call.onWhole, WholeCall.nextLive}
+use borrow.Author.Needs.{needs}
+use Rattle.flash.proofs.next_live.Statement.{statement}
+use Rattle.flash.proofs.next_live.Tie as tie
+
+open-requires : tie.Need-open-requires
+open-requires c κs = search needs
+
+enum-known-refused : tie.Need-enum-known-refused
+enum-known-refused c = search needs
+
+enum-known-m : tie.Need-enum-known-m
+enum-known-m c = search needs
+
+next-from-requires : tie.Need-next-from-requires
+next-from-requires c κs =
+    let a = c .before .before .before .before .before in
+    let i = a .args .image .now in
+    opened-usable i (a .args .partition) _ _ (sym (c .before .before .before .«open» .ensures) ∙ c .before .m .given .1) .1
+
+returns : tie.Need-returns
+returns c =
+    let a = c .before .before .before .before .before in
+    let i = a .args .image .now in
+    refused-by i (onWhole (nextLive (a .args .partition) (a .args .from))) _ (sym (c .before .before .before .«open» .ensures) ∙ c .before .refused .given .1)
+
+returns-2 : tie.Need-returns-2
+returns-2 c =
+    let a = c .before .before .before .before .before .before in
+    let i = a .args .image .now in
+    let passed = opened-usable i (a .args .partition) _ _ (sym (c .before .before .before .before .«open» .ensures) ∙ c .before .before .m .given .1) .0 in
+    next-done i (a .args .partition) passed (a .args .from) _ (c .next-from .ensures)
+
+pub next-live-spec : {M : Type 1} → statement M
+next-live-spec =
+    tie.close
+    (tie.spec open-requires enum-known-refused enum-known-m next-from-requires returns returns-2)

@@ -1,0 +1,92 @@
+// System flash partitions: check, report, next live block, read, save and erase, on an image lent by the caller.
+//
+// Every call answers a number: 0 when it is done, else the refusal's of document 01's table, and then nothing has changed.
+// No call asks anything of what it is lent.
+mod steps;
+
+use partition::opening::Opened;
+use partition::opening::open;
+ghost use mathlib.Core.List.{[], _∷_};
+ghost use Rattle.flash_model.specs.Calls.{Answered, Call.onPage, Call.onWhole, PageCall.read, PageCall.save, WholeCall.check, WholeCall.report, WholeCall.nextLive, WholeCall.erase};
+ghost use Rattle.flash.specs.Answers.{numbered, listed, nextAnswer};
+
+// What a report counts.
+pub struct Counts {
+    pub version: u8,
+    pub capacity: usize,
+    pub used: usize,
+    pub live: usize,
+}
+
+pub enum Listing {
+    Refused(u8),
+    Counted(Counts),
+}
+
+pub enum NextLive {
+    Refused(u8),
+    Number(usize),
+}
+
+// Whether the image is a sound partition of this number.
+pub fn check(image: &[u8], partition: u8) -> u8
+    ensures { λ r. ⌜ Answered (now (image .entry)) (onWhole (check partition)) (now (image .entry)) (numbered r []) ⌝ }
+{
+    match open(image, partition) {
+        Opened::Refused(refused) => refused,
+        Opened::Open(_, _) => 0,
+    }
+}
+
+// Version, capacity, how many user blocks are allocated, and how many numbers have contents.
+pub fn report(image: &[u8], partition: u8) -> Listing
+    ensures { λ r. ⌜ Answered (now (image .entry)) (onWhole (report partition)) (now (image .entry)) (listed r) ⌝ }
+{
+    match open(image, partition) {
+        Opened::Refused(refused) => Listing::Refused(refused),
+        Opened::Open(m, used) => Listing::Counted(steps::counts(image, m, used)),
+    }
+}
+
+// The lowest live number not below `from`.
+pub fn next_live(image: &[u8], partition: u8, from: usize) -> NextLive
+    ensures { λ r. ⌜ Answered (now (image .entry)) (onWhole (nextLive partition from)) (now (image .entry)) (nextAnswer r) ⌝ }
+{
+    match open(image, partition) {
+        Opened::Refused(refused) => NextLive::Refused(refused),
+        Opened::Open(m, used) => steps::next_from(image, m, used, from),
+    }
+}
+
+// Reads the contents of a number into the page.
+pub fn read(image: &[u8], partition: u8, number: usize, page: &mut [u8]) -> u8
+    ensures { λ r. ⌜ Answered (now (image .entry)) (onPage (read partition number (now (page .entry)))) (now (image .entry)) (numbered r (now (page .exit) ∷ [])) ⌝ }
+{
+    match open(image, partition) {
+        Opened::Refused(refused) => refused,
+        Opened::Open(m, used) => steps::read_page(image, m, used, number, page),
+    }
+}
+
+// Saves a page as the contents of a number, if what the writer expects is still there.
+pub fn save(image: &mut [u8], partition: u8, number: usize, expected: &[u8], page: &[u8]) -> u8
+    ensures { λ r. ⌜ Answered (now (image .entry)) (onPage (save partition number (now (expected .entry)) (now (page .entry)))) (now (image .exit)) (numbered r (now (expected .entry) ∷ now (page .entry) ∷ [])) ⌝ }
+{
+    match open(&image[..], partition) {
+        Opened::Refused(refused) => refused,
+        Opened::Open(m, used) => steps::save_page(image, m, used, number, expected, page),
+    }
+}
+
+// Compacts the partition: one block is left for each live number.
+pub fn erase(image: &mut [u8], partition: u8) -> u8
+    ensures { λ r. ⌜ Answered (now (image .entry)) (onWhole (erase partition)) (now (image .exit)) (numbered r []) ⌝ }
+{
+    match open(&image[..], partition) {
+        Opened::Refused(refused) => refused,
+        Opened::Open(m, used) => {
+            compaction::erase(image, m, used);
+            0
+        }
+    }
+}
