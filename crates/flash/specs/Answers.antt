@@ -44,10 +44,10 @@ nextOf none = nextLive.Refused 7
 nextOf (some n) = Number n
 
 unfoldable pub readRest : List ℕ → ℕ → List ℕ → ℕ
-readRest image n buffer =
-    row 6 (not (legalNumber (length image) n))
+readRest image number buffer =
+    row 6 (not (legalNumber (length image) number))
     (row 8 (not (eqb (length buffer) 60))
-    (row 7 (not (isSome (contents image n))) 0))
+    (row 7 (not (isSome (contents image number))) 0))
 
 abbrev pub orBuffer : Option (List ℕ) → List ℕ → List ℕ
 orBuffer none buffer = buffer

@@ -165,7 +165,7 @@ module _ (image : List ℕ) (n : ℕ) (expected page image′ : List ℕ) (answe
   right-length o q (x ∷ xs) f d = d .1 (contents-length image s n (x ∷ xs) (q ∙ sym f))
 
   -- the store that owns just this number takes the page
-  store-accepts : (pages : PageMap) → pages n ≡ contents image n → storeCode (length image) (headerNumber image) pages it ≡ 0
+  pub store-accepts : (pages : PageMap) → pages n ≡ contents image n → storeCode (length image) (headerNumber image) pages it ≡ 0
   unfolding storeCode
   store-accepts pages q =
       if-neg (Dec·not (ℕ-discrete (headerNumber image) (headerNumber image))) (λ d. d refl) 3 _
@@ -174,7 +174,7 @@ module _ (image : List ℕ) (n : ℕ) (expected page image′ : List ℕ) (answe
       ∙ if-neg (Dec·and (Dec·not (ℕ-discrete (length expected) 0)) (Dec·not (ℕ-discrete (length expected) 60))) (right-length (contents image n) refl expected e) 8 _
       ∙ if-neg (Dec·not (samePage (expectedPage expected) (pages n))) (λ d. d (e ∙ sym q)) 9 0
 
-  own-page : ownedPages (eqb n) image n ≡ contents image n
+  pub own-page : ownedPages (eqb n) image n ≡ contents image n
   unfolding ownedPages
   own-page = rw (eq-eqb n n refl)
 

@@ -1,0 +1,59 @@
+-- A writer's page is read back, by demand 3's run theorem with its number the only one owned. Assumes nothing.
+use Prim.Native.Nat.{ℕ}
+use mathlib.Core.Path.{_≡_, refl, sym, ap, _∙_}
+use mathlib.Core.List.{List, [], _∷_}
+use mathlib.Core.Option.{Option, none, some}
+use mathlib.Core.Logic.{if-pos, if-neg, Dec·not}
+use native.Mathlib.Omega.{arith}
+use native.Mathlib.Decide.{ℕ-discrete, decLt}
+use lib.Dec.{eqb}
+use lib.ListN.{length}
+use Rattle.flash_model.specs.Measures.{topNumber}
+use Rattle.flash_model.specs.Partition.{headerNumber}
+use Rattle.flash_model.specs.Calls.{PageCall, Reply}
+use Rattle.flash_model.specs.Calls.{PageCall.read, PageCall.save}
+use Rattle.flash_model.specs.PageStore.{PageMap, ownedPages, samePage, storeCode, storeReply, storeAfter, storeReplies}
+use Rattle.flash_model.specs.Runs.{Step, Chain, ownedCalls, ownedAnswers}
+use Rattle.flash_model.proofs.RunLaws.{store-accepts, own-page, demand3}
+use Rattle.readback.specs.OwnPage.{OwnSave}
+
+module _ (image : List ℕ) (partition n : ℕ) (expected page back : List ℕ) (own : OwnSave image partition n expected page back) where
+  abbrev saving : PageCall
+  saving = save (headerNumber image) n expected page
+
+  abbrev reading : PageCall
+  reading = read (headerNumber image) n back
+
+  abbrev pages : PageMap
+  pages = ownedPages (eqb n) image
+
+  store-reads : (kept : PageMap) → kept n ≡ some page → storeCode (length image) (headerNumber image) kept reading ≡ 0
+  unfolding storeCode
+  store-reads kept q =
+      if-neg (Dec·not (ℕ-discrete (headerNumber image) (headerNumber image))) (λ d. d refl) 3 _
+      ∙ if-neg (decLt (topNumber (length image)) n) (λ h. omega (arith, h, own .is-legal)) 6 _
+      ∙ if-neg (Dec·not (ℕ-discrete (length back) 60)) (λ d. d (own .back-60)) 8 _
+      ∙ if-neg (samePage (kept n) none) (λ h. absurd (different (sym q ∙ h))) 7 0
+    where
+      different : _≡_ {A = Option (List ℕ)} (some page) none → ⊥
+      different e = let z : _≡_ {A = ℕ} 0 1 = cc in omega (arith, z)
+
+  store-keeps : storeAfter (length image) (headerNumber image) pages saving n ≡ some page
+  unfolding storeAfter
+  store-keeps =
+      rw (store-accepts image n expected page image (record { code = 0; values = []; buffers = [] }) (own .is-sound) (own .is-legal) (own .page-60) (own .up-to-date) pages (own-page image n expected page image (record { code = 0; values = []; buffers = [] }) (own .is-sound) (own .is-legal) (own .page-60) (own .up-to-date)))
+      (if-pos (ℕ-discrete n n) refl (some page) (pages n))
+
+  pub own-page-back : (steps : List Step) → Chain image steps
+      → ownedCalls (eqb n) steps ≡ save partition n expected page ∷ read partition n back ∷ []
+      → (a b : Reply) → ownedAnswers (eqb n) steps ≡ a ∷ b ∷ []
+      → (b .code ≡ 0) × (b .buffers ≡ page ∷ [])
+  unfolding storeReplies storeReply
+  own-page-back steps chain calls a b answers =
+      let kept = storeAfter (length image) (headerNumber image) pages saving in
+      let named : ownedCalls (eqb n) steps ≡ saving ∷ reading ∷ [] = calls ∙ ap (λ (p : ℕ). save p n expected page ∷ read p n back ∷ []) (own .names-it) in
+      let all : a ∷ b ∷ [] ≡ storeReplies (length image) (headerNumber image) pages (saving ∷ reading ∷ []) =
+      sym answers ∙ demand3 .runs-as-store (eqb n) image steps (own .is-sound) chain .answers ∙ ap (storeReplies (length image) (headerNumber image) pages) named in
+      let last : b ≡ storeReply (length image) (headerNumber image) kept reading = cc in
+      let code = store-reads kept store-keeps in
+      (ap (λ (x : Reply). x .code) last ∙ code, ap (λ (x : Reply). x .buffers) last ∙ rw (code, store-keeps))

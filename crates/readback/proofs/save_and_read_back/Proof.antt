@@ -1,0 +1,98 @@
+-- `save_and_read_back` meets its contract: its calls are a chain, and demand 3's run theorem says what the last one gives.
+-- Assumes nothing.
+use mathlib.Core.Path.{_≡_, refl, sym}
+use mathlib.Core.List.{List, [], _∷_}
+use Prim.Native.Nat.{ℕ}
+use borrow.Author.Tests.{eq-eqb, ne-eqb}
+use Rattle.flash_model.specs.Calls.{Call, Reply}
+use Rattle.flash_model.specs.Calls.{Call.onPage, Call.onWhole, PageCall.read, PageCall.save, WholeCall.check, WholeCall.report, WholeCall.nextLive, WholeCall.erase}
+use Rattle.flash_model.specs.Runs.{Step, Chain}
+use Rattle.flash.specs.Answers.{numbered, listed, nextAnswer}
+use Rattle.readback.proofs.OwnPageLaws.{own-page-back}
+use borrow.Author.Needs.{needs}
+use Rattle.readback.proofs.save_and_read_back.Statement.{statement}
+use Rattle.readback.proofs.save_and_read_back.Tie as tie
+
+abbrev step : Call → Reply → List ℕ → Step
+step made answer image′ = record { made = made; answer = answer; image′ = image′ }
+
+only : (a b : List ℕ) → _≡_ {A = List (List ℕ)} (a ∷ []) (b ∷ []) → a ≡ b
+only a b e = cc
+
+save-requires : tie.Need-save-requires
+save-requires c κs = search needs
+
+check-requires : tie.Need-check-requires
+check-requires c κs = search needs
+
+save-requires-2 : tie.Need-save-requires-2
+save-requires-2 c κs = search needs
+
+report-requires : tie.Need-report-requires
+report-requires c κs = search needs
+
+next-live-requires : tie.Need-next-live-requires
+next-live-requires c κs = search needs
+
+erase-requires : tie.Need-erase-requires
+erase-requires c κs = search needs
+
+read-requires : tie.Need-read-requires
+read-requires c κs = search needs
+
+same-length : tie.Need-same-length
+same-length c = search needs
+
+same-length-2 : tie.Need-same-length-2
+same-length-2 c = search needs
+
+returns : tie.Need-returns
+returns c own apart =
+    let a = c .before .before .before .before .before .before .before .before .before .before .before .before .before .before .before .before .before .before .before .before .before .before .before .before .before .before .before .before in
+    let i = a .args .image .now in
+    let p = a .args .partition in
+    let n = a .args .number in
+    let e = a .args .expected .now in
+    let page = a .args .page .now in
+    let others = a .args .others .now in
+    let back = a .args .back .now in
+    let one = c .before .before .before .before .before .before .before .before .before .before .before .before .before .before .before .before .before .before .before .before .before .save in
+    let two = c .before .before .before .before .before .before .before .before .before .before .before .before .before .before .before .save2 in
+    let three = c .before .before .before .before .before .before .before .erase in
+    let last = c .before .before .read in
+    let i1 = one .last .0 in
+    let i2 = two .last .0 in
+    let i3 = three .last .0 in
+    let left = last .last .1 .1 .1 .0 in
+    let checked = c .before .before .before .before .before .before .before .before .before .before .before .before .before .before .before .before .before .check in
+    let counted = c .before .before .before .before .before .before .before .before .before .before .before .report in
+    let looked = c .before .before .before .before .before .before .before .before .before .next-live in
+    let steps : List Step =
+    step (onPage (save p n e page)) (numbered (one .result) (e ∷ page ∷ [])) i1
+    ∷ step (onWhole (check p)) (numbered (checked .result) []) i1
+    ∷ step (onPage (save p (a .args .other) page others)) (numbered (two .result) (page ∷ others ∷ [])) i2
+    ∷ step (onWhole (report p)) (listed (counted .result)) i2
+    ∷ step (onWhole (nextLive p n)) (nextAnswer (looked .result)) i2
+    ∷ step (onWhole (erase p)) (numbered (three .result) []) i3
+    ∷ step (onPage (read p n back)) (numbered (last .result) (left ∷ [])) i3
+    ∷ [] in
+    let chain : Chain i steps = (one .ensures, (checked .ensures, (two .ensures, (counted .ensures, (looked .ensures, (three .ensures, (last .ensures, tt))))))) in
+    let mine = eq-eqb n n refl in
+    let theirs = ne-eqb n (a .args .other) (λ q. apart (sym q)) in
+    let r = own-page-back i p n e page back own steps chain (rw (mine, theirs)) (numbered (one .result) (e ∷ page ∷ [])) (numbered (last .result) (left ∷ [])) (rw (mine, theirs)) in
+    (r .0, only left page (r .1))
+
+pub save-and-read-back-spec : {M : Type 1} → statement M
+save-and-read-back-spec =
+    tie.close
+    (tie.spec
+    save-requires
+    check-requires
+    save-requires-2
+    report-requires
+    next-live-requires
+    erase-requires
+    read-requires
+    same-length
+    same-length-2
+    returns)

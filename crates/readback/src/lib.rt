@@ -1,0 +1,33 @@
+// Demand 3 on the running calls: whatever stands between, a writer reads its own page back.
+use flash::check;
+use flash::erase;
+use flash::next_live;
+use flash::read;
+use flash::report;
+use flash::save;
+ghost use mathlib.Core.Path.{_≡_};
+ghost use mathlib.Core.Logic.{_≢_};
+ghost use Rattle.readback.specs.OwnPage.{OwnSave};
+
+// Saves a page; others check, save another number, count, look for the next live number and erase; then the number is read
+// back. The answer is the read's.
+pub fn save_and_read_back(
+    image: &mut [u8],
+    partition: u8,
+    number: usize,
+    expected: &[u8],
+    page: &[u8],
+    other: usize,
+    others: &[u8],
+    back: &mut [u8],
+) -> u8
+    ensures { λ r. ⌜ (OwnSave (now (image .entry)) partition number (now (expected .entry)) (now (page .entry)) (now (back .entry)) → other ≢ number → (r ≡ 0) × (now (back .exit) ≡ now (page .entry))) ⌝ }
+{
+    save(image, partition, number, expected, page);
+    check(&image[..], partition);
+    save(image, partition, other, page, others);
+    report(&image[..], partition);
+    next_live(&image[..], partition, number);
+    erase(image, partition);
+    read(&image[..], partition, number, back)
+}
