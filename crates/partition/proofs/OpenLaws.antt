@@ -83,9 +83,6 @@ module _ (image : List ℕ) (partition : ℕ) where
       pub free-low : 1 ≤ k
       free-low = lowest-is-k .low
 
-      free-high : k ≤ capacity (length image)
-      free-high = omega (arith, lowest-is-k .high)
-
       end-is : 1 + capacity (length image) - k ≡ firstBitmap (length image) - k
       end-is = omega (arith, open-measured .first-bitmap)
 
