@@ -30,7 +30,8 @@ fn header_refusal(image: &[u8], partition: u8) -> u8
     0
 }
 
-// The bitmap is looked at once, here: on a sound partition the allocated blocks are those from 1 to the count.
+// The sequence of the bitmap is tested here and nowhere else: on a sound partition the allocated blocks are those from 1 to
+// the count.
 pub fn open(image: &[u8], partition: u8) -> Opened
     ensures { λ r. ⌜ r ≡ opened (now (image .entry)) partition ⌝ }
 {

@@ -8,14 +8,15 @@ use native.Mathlib.Omega.{arith}
 use native.Mathlib.Decide.{ℕ-discrete, decLt}
 use lib.Dec.{eqb}
 use lib.ListN.{length}
+use borrow.Author.Tests.{eq-eqb}
 use Rattle.flash_model.specs.Measures.{topNumber}
 use Rattle.flash_model.specs.Partition.{headerNumber}
 use Rattle.flash_model.specs.Calls.{PageCall, Reply}
 use Rattle.flash_model.specs.Calls.{PageCall.read, PageCall.save}
-use Rattle.flash_model.specs.PageStore.{PageMap, ownedPages, samePage, storeCode, storeReply, storeAfter, storeReplies}
-use Rattle.flash_model.specs.Runs.{Step, Chain, ownedCalls, ownedAnswers}
+use Rattle.flash_model.specs.PageStore.{PageMap, ownedPages, samePage, storeCode, storeReply, storeAfter, storeReplies, storeFinal}
+use Rattle.flash_model.specs.Runs.{Step, Chain, final, ownedCalls, ownedAnswers}
 use Rattle.flash_model.proofs.RunLaws.{store-accepts, own-page, demand3}
-use Rattle.readback.specs.OwnPage.{OwnSave}
+use Rattle.readback.specs.OwnPage.{OwnSave, OwnPageBack}
 
 module _ (image : List ℕ) (partition n : ℕ) (expected page back : List ℕ) (own : OwnSave image partition n expected page back) where
   abbrev saving : PageCall
@@ -44,16 +45,29 @@ module _ (image : List ℕ) (partition n : ℕ) (expected page back : List ℕ) 
       rw (store-accepts image n expected page image (record { code = 0; values = []; buffers = [] }) (own .is-sound) (own .is-legal) (own .page-60) (own .up-to-date) pages (own-page image n expected page image (record { code = 0; values = []; buffers = [] }) (own .is-sound) (own .is-legal) (own .page-60) (own .up-to-date)))
       (if-pos (ℕ-discrete n n) refl (some page) (pages n))
 
+  read-keeps : (kept : PageMap) → storeAfter (length image) (headerNumber image) kept reading n ≡ kept n
+  unfolding storeAfter
+  read-keeps kept = refl
+
   pub own-page-back : (steps : List Step) → Chain image steps
       → ownedCalls (eqb n) steps ≡ save partition n expected page ∷ read partition n back ∷ []
-      → (a b : Reply) → ownedAnswers (eqb n) steps ≡ a ∷ b ∷ []
-      → (b .code ≡ 0) × (b .buffers ≡ page ∷ [])
-  unfolding storeReplies storeReply
-  own-page-back steps chain calls a b answers =
+      → (a b : Reply) (back′ : List ℕ) → ownedAnswers (eqb n) steps ≡ a ∷ b ∷ [] → b .buffers ≡ back′ ∷ []
+      → OwnPageBack image n page (final image steps) (b .code) back′
+  unfolding storeReplies storeFinal storeReply
+  own-page-back steps chain calls a b back′ answers buffers =
       let kept = storeAfter (length image) (headerNumber image) pages saving in
       let named : ownedCalls (eqb n) steps ≡ saving ∷ reading ∷ [] = calls ∙ ap (λ (p : ℕ). save p n expected page ∷ read p n back ∷ []) (own .names-it) in
+      let runs = demand3 .runs-as-store (eqb n) image steps (own .is-sound) chain in
       let all : a ∷ b ∷ [] ≡ storeReplies (length image) (headerNumber image) pages (saving ∷ reading ∷ []) =
-      sym answers ∙ demand3 .runs-as-store (eqb n) image steps (own .is-sound) chain .answers ∙ ap (storeReplies (length image) (headerNumber image) pages) named in
+      sym answers ∙ runs .answers ∙ ap (storeReplies (length image) (headerNumber image) pages) named in
       let last : b ≡ storeReply (length image) (headerNumber image) kept reading = cc in
       let code = store-reads kept store-keeps in
-      (ap (λ (x : Reply). x .code) last ∙ code, ap (λ (x : Reply). x .buffers) last ∙ rw (code, store-keeps))
+      let left : back′ ∷ [] ≡ page ∷ [] = sym buffers ∙ ap (λ (x : Reply). x .buffers) last ∙ rw (code, store-keeps) in
+      record {
+        is-read = ap (λ (x : Reply). x .code) last ∙ code;
+        is-own = cc;
+        is-there = runs .pages n (eq-eqb n n refl) ∙ ap (λ (ps : List PageCall). storeFinal (length image) (headerNumber image) pages ps n) named ∙ read-keeps kept ∙ store-keeps;
+        ends-sound = runs .ends-sound;
+        same-length = runs .same-length;
+        same-number = runs .same-number;
+      }

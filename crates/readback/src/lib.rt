@@ -5,9 +5,8 @@ use flash::next_live;
 use flash::read;
 use flash::report;
 use flash::save;
-ghost use mathlib.Core.Path.{_≡_};
 ghost use mathlib.Core.Logic.{_≢_};
-ghost use Rattle.readback.specs.OwnPage.{OwnSave};
+ghost use Rattle.readback.specs.OwnPage.{OwnSave, OwnPageBack};
 
 // Saves a page; others check, save another number, count, look for the next live number and erase; then the number is read
 // back. The answer is the read's.
@@ -21,7 +20,7 @@ pub fn save_and_read_back(
     others: &[u8],
     back: &mut [u8],
 ) -> u8
-    ensures { λ r. ⌜ (OwnSave (now (image .entry)) partition number (now (expected .entry)) (now (page .entry)) (now (back .entry)) → other ≢ number → (r ≡ 0) × (now (back .exit) ≡ now (page .entry))) ⌝ }
+    ensures { λ r. ⌜ (OwnSave (now (image .entry)) partition number (now (expected .entry)) (now (page .entry)) (now (back .entry)) → other ≢ number → OwnPageBack (now (image .entry)) number (now (page .entry)) (now (image .exit)) r (now (back .exit))) ⌝ }
 {
     save(image, partition, number, expected, page);
     check(&image[..], partition);

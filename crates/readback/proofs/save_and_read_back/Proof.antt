@@ -1,6 +1,6 @@
 -- `save_and_read_back` meets its contract: its calls are a chain, and demand 3's run theorem says what the last one gives.
 -- Assumes nothing.
-use mathlib.Core.Path.{_≡_, refl, sym}
+use mathlib.Core.Path.{refl, sym}
 use mathlib.Core.List.{List, [], _∷_}
 use Prim.Native.Nat.{ℕ}
 use borrow.Author.Tests.{eq-eqb, ne-eqb}
@@ -15,9 +15,6 @@ use Rattle.readback.proofs.save_and_read_back.Tie as tie
 
 abbrev step : Call → Reply → List ℕ → Step
 step made answer image′ = record { made = made; answer = answer; image′ = image′ }
-
-only : (a b : List ℕ) → _≡_ {A = List (List ℕ)} (a ∷ []) (b ∷ []) → a ≡ b
-only a b e = cc
 
 save-requires : tie.Need-save-requires
 save-requires c κs = search needs
@@ -79,8 +76,7 @@ returns c own apart =
     let chain : Chain i steps = (one .ensures, (checked .ensures, (two .ensures, (counted .ensures, (looked .ensures, (three .ensures, (last .ensures, tt))))))) in
     let mine = eq-eqb n n refl in
     let theirs = ne-eqb n (a .args .other) (λ q. apart (sym q)) in
-    let r = own-page-back i p n e page back own steps chain (rw (mine, theirs)) (numbered (one .result) (e ∷ page ∷ [])) (numbered (last .result) (left ∷ [])) (rw (mine, theirs)) in
-    (r .0, only left page (r .1))
+    own-page-back i p n e page back own steps chain (rw (mine, theirs)) (numbered (one .result) (e ∷ page ∷ [])) (numbered (last .result) (left ∷ [])) left (rw (mine, theirs)) refl
 
 pub save-and-read-back-spec : {M : Type 1} → statement M
 save-and-read-back-spec =
