@@ -15,6 +15,6 @@ pub record Over (image : List ℕ) (size : ℕ) : Type 0 where
   pub has-size : length image ≡ size
   pub is-legal : legalSize size ≡ true
 
-abbrev pub found : Option ℕ → Found
-found none = Nothing
-found (some k) = At k
+abbrev pub asFound : Option ℕ → Found
+asFound none = Nothing
+asFound (some k) = At k

@@ -5,7 +5,7 @@ ghost use Prim.Native.Nat.{_-_, _≤_};
 ghost use Rattle.words.specs.Lists.{anyOf, numbersFrom};
 ghost use Rattle.flash_model.specs.Measures.{firstBitmap, capacity};
 ghost use Rattle.flash_model.specs.Partition.{allocated, lowestFree};
-ghost use Rattle.bitmap.specs.Over.{Over, found};
+ghost use Rattle.bitmap.specs.Over.{Over, asFound};
 
 // A physical block, or none.
 pub enum Found {
@@ -28,7 +28,7 @@ pub fn is_allocated(image: &[u8], m: Measures, k: usize) -> bool
 // The lowest free user block.
 pub fn lowest_free(image: &[u8], m: Measures) -> Found
     requires { ⌜ Over (now image) (m .size) ⌝ }
-    ensures { λ r. ⌜ r ≡ found (lowestFree (now (image .entry))) ⌝ }
+    ensures { λ r. ⌜ r ≡ asFound (lowestFree (now (image .entry))) ⌝ }
 {
     let end = m.first_bitmap();
     let mut k = 1;

@@ -3,6 +3,7 @@ use journal::append::put_block;
 use journal::moving::finish;
 use journal::moving::keep_blocks;
 use measures::Measures;
+use measures::NUMBERS;
 use partition::listing::list_places;
 ghost use mathlib.Core.Path.{_≡_};
 ghost use mathlib.Core.List.{[], _∷_, _++_};
@@ -12,9 +13,6 @@ ghost use Rattle.flash_model.specs.Measures.{topNumber};
 ghost use Rattle.flash_model.specs.UserBlock.{newBlock};
 ghost use Rattle.flash_model.specs.Update as model;
 ghost use Rattle.partition.specs.Usable.{Usable};
-
-// One entry for each logical number of the longest partition.
-pub const NUMBERS: usize = 1021;
 
 // Every number's contents kept, and no other block.
 pub fn erase(image: &mut [u8], m: Measures, used: usize)

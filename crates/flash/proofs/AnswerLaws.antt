@@ -21,17 +21,17 @@ use Rattle.flash_model.proofs.CallLaws.{unrefused-sound, read-rows}
 use Rattle.flash_model.proofs.Demand2Laws.{refused-first}
 use Rattle.measures.specs.declared.Measures.{Measures}
 use Rattle.partition.specs.Usable.{Usable}
-use Rattle.partition.specs.Opening.{opened}
+use Rattle.partition.specs.Opening.{openingOf}
 use Rattle.partition.specs.declared.opening.Opened.the-variants as opening
 use Rattle.flash.specs.Answers.{numbered, listed, nextAnswer, countsOf, nextOf, readRest, orBuffer, readBuffer, wrongLengths, saveRest}
 use Rattle.flash.specs.declared.Counts.{Counts}
-use Rattle.flash.specs.declared.Listing.the-variants as listing
-use Rattle.flash.specs.declared.NextLive.{NextLive}
+use Rattle.flash.specs.declared.Summary.the-variants as summaries
+use Rattle.flash.specs.declared.LiveNumber.{LiveNumber}
 
 -- ---- what opening tells
 
-pub opened-refused : (image : List ℕ) (partition n : ℕ) → opened image partition ≡ opening.Refused n → (refusal image partition ≡ n) × (n ≢ 0)
-unfolding opened
+pub opened-refused : (image : List ℕ) (partition n : ℕ) → openingOf image partition ≡ opening.Refused n → (refusal image partition ≡ n) × (n ≢ 0)
+unfolding openingOf
 opened-refused image partition n e = go (eqb (refusal image partition) 0) refl e
   where
     go : (t : Bool) → eqb (refusal image partition) 0 ≡ t
@@ -40,9 +40,9 @@ opened-refused image partition n e = go (eqb (refusal image partition) 0) refl e
     go true q f = let z : _≡_ {A = ℕ} 0 1 = cc in absurd (omega arith)
     go false q f = let z : refusal image partition ≡ n = cc in (z, λ w. eqb-false (refusal image partition) 0 q (z ∙ w))
 
-pub opened-usable : (image : List ℕ) (partition : ℕ) (m : Measures) (count : ℕ) → opened image partition ≡ opening.Open m count
+pub opened-usable : (image : List ℕ) (partition : ℕ) (m : Measures) (count : ℕ) → openingOf image partition ≡ opening.Open m count
     → (refusal image partition ≡ 0) × Usable image (m .size) count
-unfolding opened
+unfolding openingOf
 opened-usable image partition m count e = go (eqb (refusal image partition) 0) refl e
   where
     go : (t : Bool) → eqb (refusal image partition) 0 ≡ t
@@ -65,7 +65,7 @@ module _ (image : List ℕ) (c : Call) where
   unfolding replyTo after accepted
   answer-done e = record { answer-is = rw e; image-is = rw e }
 
-  pub refused-by : (n : ℕ) → opened image (namedBy c) ≡ opening.Refused n → Answered image c image (record { code = n; values = []; buffers = buffersOf c })
+  pub refused-by : (n : ℕ) → openingOf image (namedBy c) ≡ opening.Refused n → Answered image c image (record { code = n; values = []; buffers = buffersOf c })
   refused-by n e =
       let r = opened-refused image (namedBy c) n e in
       answer-refused n (refused-first image c (λ z. r .1 (sym (r .0) ∙ z)) ∙ r .0) (r .1)
@@ -77,7 +77,7 @@ module _ (image : List ℕ) (partition : ℕ) (passed : refusal image partition 
   unfolding codeOf
   check-done = answer-done image (onWhole (check partition)) passed
 
-  pub report-done : (r : Counts) → r ≡ countsOf image → Answered image (onWhole (report partition)) image (listed (listing.Counted r))
+  pub report-done : (r : Counts) → r ≡ countsOf image → Answered image (onWhole (report partition)) image (listed (summaries.Counted r))
   unfolding codeOf countsOf
   report-done r e = rw e (answer-done image (onWhole (report partition)) passed)
 
@@ -85,7 +85,7 @@ module _ (image : List ℕ) (partition : ℕ) (passed : refusal image partition 
   unfolding codeOf
   erase-done image′ e = rw e (answer-done image (onWhole (erase partition)) passed)
 
-  pub next-done : (start : ℕ) (r : NextLive) → r ≡ nextOf (lowestLive image start) → Answered image (onWhole (nextLive partition start)) image (nextAnswer r)
+  pub next-done : (start : ℕ) (r : LiveNumber) → r ≡ nextOf (lowestLive image start) → Answered image (onWhole (nextLive partition start)) image (nextAnswer r)
   unfolding codeOf
   next-done start r e = rw e (go (lowestLive image start) refl)
     where

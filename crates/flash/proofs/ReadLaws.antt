@@ -13,24 +13,24 @@ use Rattle.flash_model.specs.Measures.{capacity, legalNumber}
 use Rattle.flash_model.specs.UserBlock.{payload}
 use Rattle.flash_model.specs.Partition.{blockAt, version, contents, holder, live, used}
 use Rattle.flash_model.proofs.HolderLaws.{holder-held}
-use Rattle.bitmap.specs.Over.{found}
+use Rattle.bitmap.specs.Over.{asFound}
 use Rattle.bitmap.specs.declared.Found.the-variants.{At, Nothing}
 use Rattle.partition.specs.Usable.{Usable}
-use Rattle.partition.specs.Listing.{places, nonzero, next}
+use Rattle.partition.specs.Listing.{places, nonzero, asNext}
 use Rattle.partition.specs.declared.listing.Next.the-variants as nexts
 use Rattle.partition.proofs.OpenLaws.{found-at, found-nothing}
 use Rattle.partition.proofs.PlaceLaws.{places-length, live-entries}
 use Rattle.flash.specs.Answers.{countsOf, nextOf, readRest, readBuffer}
 use Rattle.flash.specs.declared.Counts.{Counts}
-use Rattle.flash.specs.declared.NextLive.the-variants as nextLive
+use Rattle.flash.specs.declared.LiveNumber.the-variants as liveNumbers
 
 -- ---- the next live number
 
-pub next-found : (o : Option ℕ) (n : ℕ) → next o ≡ nexts.Number n → nextLive.Number n ≡ nextOf o
+pub next-found : (o : Option ℕ) (n : ℕ) → asNext o ≡ nexts.Number n → liveNumbers.Number n ≡ nextOf o
 next-found none n e = let z : _≡_ {A = ℕ} 0 1 = cc in absurd (omega arith)
-next-found (some m) n e = let z : m ≡ n = cc in ap (λ (i : ℕ). nextLive.Number i) (sym z)
+next-found (some m) n e = let z : m ≡ n = cc in ap (λ (i : ℕ). liveNumbers.Number i) (sym z)
 
-pub next-missing : (o : Option ℕ) → next o ≡ nexts.Nothing → nextLive.Refused 7 ≡ nextOf o
+pub next-missing : (o : Option ℕ) → asNext o ≡ nexts.Nothing → liveNumbers.Refused 7 ≡ nextOf o
 next-missing none e = refl
 next-missing (some m) e = let z : _≡_ {A = ℕ} 0 1 = cc in absurd (omega arith)
 
@@ -47,15 +47,15 @@ counts-are image size count u area rest e cap n c l =
 
 -- ---- a number's contents
 
-pub contents-at : (image : List ℕ) (n k : ℕ) → found (holder image n) ≡ At k → contents image n ≡ some (payload (blockAt image k))
+pub contents-at : (image : List ℕ) (n k : ℕ) → asFound (holder image n) ≡ At k → contents image n ≡ some (payload (blockAt image k))
 unfolding contents
 contents-at image n k e = ap (Option·map (λ j. payload (blockAt image j))) (found-at (holder image n) k e)
 
-pub contents-none : (image : List ℕ) (n : ℕ) → found (holder image n) ≡ Nothing → contents image n ≡ none
+pub contents-none : (image : List ℕ) (n : ℕ) → asFound (holder image n) ≡ Nothing → contents image n ≡ none
 unfolding contents
 contents-none image n e = ap (Option·map (λ j. payload (blockAt image j))) (found-nothing (holder image n) e)
 
-pub found-high : (image : List ℕ) (size count : ℕ) → Usable image size count → (n k : ℕ) → found (holder image n) ≡ At k → k ≤ capacity size
+pub found-high : (image : List ℕ) (size count : ℕ) → Usable image size count → (n k : ℕ) → asFound (holder image n) ≡ At k → k ≤ capacity size
 found-high image size count u n k e =
     omega (arith, holder-held image n k (found-at (holder image n) k e) .highest-one .high, ap capacity (u .has-size))
 
@@ -101,7 +101,7 @@ module _ (image : List ℕ) (size count : ℕ) (u : Usable image size count) (n 
       done page e = record { code-is = rw (here true legal, l, e); buffer-is = rw (here true legal, l, e) }
 
       -- the buffer after the payload is copied over all of it
-      pub read-0 : (k : ℕ) → found (holder image n) ≡ At k → (src : List ℕ) → src ≡ payload (blockAt image k) → length src ≡ 60
+      pub read-0 : (k : ℕ) → asFound (holder image n) ≡ At k → (src : List ℕ) → src ≡ payload (blockAt image k) → length src ≡ 60
           → (left : List ℕ) → left ≡ take (length src) src ++ drop (length src) buffer → ReadAs 0 left
       read-0 k f src e s left h =
           let t : length src ≤ 60 = omega arith in

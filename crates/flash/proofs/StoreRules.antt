@@ -22,7 +22,7 @@ use Rattle.flash_model.specs.Calls.{changedSince}
 use Rattle.flash_model.proofs.SoundLaws.{allocated-used}
 use Rattle.flash_model.proofs.SaveLaws.{append-blank, blank-used}
 use Rattle.flash_model.proofs.MeaningLaws.{contents-length}
-use Rattle.bitmap.specs.Over.{found}
+use Rattle.bitmap.specs.Over.{asFound}
 use Rattle.bitmap.specs.declared.Found.the-variants.{At, Nothing}
 use Rattle.partition.specs.Usable.{Usable}
 use Rattle.flash.specs.Answers.{canAppend, wrongLengths, saveRest}
@@ -50,22 +50,22 @@ module _ (image : List ℕ) (size count : ℕ) (u : Usable image size count) (n 
   unfolding changedSince
   none-expected e c = rw (c, e)
 
-  pub nothing-there : length expected ≡ 0 → found (holder image n) ≡ Nothing → 0 ≡ row 9 (changedSince image n expected) 0
+  pub nothing-there : length expected ≡ 0 → asFound (holder image n) ≡ Nothing → 0 ≡ row 9 (changedSince image n expected) 0
   nothing-there e f = none-expected e (contents-none image n f)
 
-  pub page-there : length expected ≡ 0 → (k : ℕ) → found (holder image n) ≡ At k → 9 ≡ row 9 (changedSince image n expected) 0
+  pub page-there : length expected ≡ 0 → (k : ℕ) → asFound (holder image n) ≡ At k → 9 ≡ row 9 (changedSince image n expected) 0
   unfolding changedSince
   page-there e k f =
       let c = contents-at image n k f in
       let l = contents-length image (u .is-sound) n (payload (blockAt image k)) c in
       rw (c, same-lengths (payload (blockAt image k)) expected (λ d. omega (arith, d, l, e)))
 
-  pub nothing-left : (length expected ≡ 0 → ⊥) → found (holder image n) ≡ Nothing → 9 ≡ row 9 (changedSince image n expected) 0
+  pub nothing-left : (length expected ≡ 0 → ⊥) → asFound (holder image n) ≡ Nothing → 9 ≡ row 9 (changedSince image n expected) 0
   unfolding changedSince
   nothing-left h f = rw (contents-none image n f, ne-eqb (length expected) 0 h)
 
   -- the bytes are compared
-  pub compared : (k : ℕ) → found (holder image n) ≡ At k → (same : Bool) → same ≡ sameBytes (payload (blockAt image k)) expected
+  pub compared : (k : ℕ) → asFound (holder image n) ≡ At k → (same : Bool) → same ≡ sameBytes (payload (blockAt image k)) expected
       → cond same 0 9 ≡ row 9 (changedSince image n expected) 0
   unfolding changedSince
   compared k f same e = rw (contents-at image n k f, sym e) (go same)

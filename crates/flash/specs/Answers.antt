@@ -14,24 +14,24 @@ use Rattle.flash_model.specs.Partition.{row, contents}
 use Rattle.flash_model.specs.Partition as model
 use Rattle.flash_model.specs.Calls.{Reply, changedSince}
 use Rattle.flash.specs.declared.Counts.{Counts}
-use Rattle.flash.specs.declared.Listing.{Listing}
-use Rattle.flash.specs.declared.Listing.the-variants.{Counted}
-use Rattle.flash.specs.declared.Listing.the-variants as listing
-use Rattle.flash.specs.declared.NextLive.{NextLive}
-use Rattle.flash.specs.declared.NextLive.the-variants.{Number}
-use Rattle.flash.specs.declared.NextLive.the-variants as nextLive
+use Rattle.flash.specs.declared.Summary.{Summary}
+use Rattle.flash.specs.declared.Summary.the-variants.{Counted}
+use Rattle.flash.specs.declared.Summary.the-variants as summaries
+use Rattle.flash.specs.declared.LiveNumber.{LiveNumber}
+use Rattle.flash.specs.declared.LiveNumber.the-variants.{Number}
+use Rattle.flash.specs.declared.LiveNumber.the-variants as liveNumbers
 
 -- A number, with these buffers.
 abbrev pub numbered : ℕ → List (List ℕ) → Reply
 numbered answered lent = record { code = answered; values = []; buffers = lent }
 
 -- A report: "version, capacity, used and live".
-abbrev pub listed : Listing → Reply
-listed (listing.Refused refused) = numbered refused []
+abbrev pub listed : Summary → Reply
+listed (summaries.Refused refused) = numbered refused []
 listed (Counted c) = record { code = 0; values = c .version ∷ c .capacity ∷ c .used ∷ c .live ∷ []; buffers = [] }
 
-abbrev pub nextAnswer : NextLive → Reply
-nextAnswer (nextLive.Refused refused) = numbered refused []
+abbrev pub nextAnswer : LiveNumber → Reply
+nextAnswer (liveNumbers.Refused refused) = numbered refused []
 nextAnswer (Number n) = record { code = 0; values = n ∷ []; buffers = [] }
 
 -- ---- past refusals 1 to 5
@@ -39,8 +39,8 @@ nextAnswer (Number n) = record { code = 0; values = n ∷ []; buffers = [] }
 unfoldable pub countsOf : List ℕ → Counts
 countsOf image = record { version = model.version image; capacity = measures.capacity (length image); used = model.used image; live = model.live image }
 
-abbrev pub nextOf : Option ℕ → NextLive
-nextOf none = nextLive.Refused 7
+abbrev pub nextOf : Option ℕ → LiveNumber
+nextOf none = liveNumbers.Refused 7
 nextOf (some n) = Number n
 
 unfoldable pub readRest : List ℕ → ℕ → List ℕ → ℕ

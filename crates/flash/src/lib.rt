@@ -18,12 +18,12 @@ pub struct Counts {
     pub live: usize,
 }
 
-pub enum Listing {
+pub enum Summary {
     Refused(u8),
     Counted(Counts),
 }
 
-pub enum NextLive {
+pub enum LiveNumber {
     Refused(u8),
     Number(usize),
 }
@@ -39,21 +39,21 @@ pub fn check(image: &[u8], partition: u8) -> u8
 }
 
 // Version, capacity, how many user blocks are allocated, and how many numbers have contents.
-pub fn report(image: &[u8], partition: u8) -> Listing
+pub fn report(image: &[u8], partition: u8) -> Summary
     ensures { λ r. ⌜ Answered (now (image .entry)) (onWhole (report partition)) (now (image .entry)) (listed r) ⌝ }
 {
     match open(image, partition) {
-        Opened::Refused(refused) => Listing::Refused(refused),
-        Opened::Open(m, used) => Listing::Counted(steps::counts(image, m, used)),
+        Opened::Refused(refused) => Summary::Refused(refused),
+        Opened::Open(m, used) => Summary::Counted(steps::count_blocks(image, m, used)),
     }
 }
 
 // The lowest live number not below `from`.
-pub fn next_live(image: &[u8], partition: u8, from: usize) -> NextLive
+pub fn next_live(image: &[u8], partition: u8, from: usize) -> LiveNumber
     ensures { λ r. ⌜ Answered (now (image .entry)) (onWhole (nextLive partition from)) (now (image .entry)) (nextAnswer r) ⌝ }
 {
     match open(image, partition) {
-        Opened::Refused(refused) => NextLive::Refused(refused),
+        Opened::Refused(refused) => LiveNumber::Refused(refused),
         Opened::Open(m, used) => steps::next_from(image, m, used, from),
     }
 }

@@ -1,10 +1,10 @@
 // What the calls do on a partition that refusals 1 to 5 don't apply to.
 use crate::Counts;
-use crate::NextLive;
+use crate::LiveNumber;
 use bitmap::Found;
-use compaction::NUMBERS;
 use journal::append;
 use measures::Measures;
+use measures::NUMBERS;
 use partition::blocks::find;
 use partition::blocks::part_from;
 use partition::listing;
@@ -22,7 +22,7 @@ ghost use Rattle.flash_model.specs.Calls.{changedSince};
 ghost use Rattle.partition.specs.Usable.{Usable};
 ghost use Rattle.flash.specs.Answers.{countsOf, nextOf, readRest, readBuffer, wrongLengths, saveRest, canAppend};
 
-pub(crate) fn counts(image: &[u8], m: Measures, used: usize) -> Counts
+pub(crate) fn count_blocks(image: &[u8], m: Measures, used: usize) -> Counts
     requires { ⌜ Usable (now image) (m .size) used ⌝ }
     ensures { λ r. ⌜ r ≡ countsOf (now (image .entry)) ⌝ }
 {
@@ -37,13 +37,13 @@ pub(crate) fn counts(image: &[u8], m: Measures, used: usize) -> Counts
     }
 }
 
-pub(crate) fn next_from(image: &[u8], m: Measures, used: usize, from: usize) -> NextLive
+pub(crate) fn next_from(image: &[u8], m: Measures, used: usize, from: usize) -> LiveNumber
     requires { ⌜ Usable (now image) (m .size) used ⌝ }
     ensures { λ r. ⌜ r ≡ nextOf (lowestLive (now (image .entry)) from) ⌝ }
 {
     match listing::next_number(image, m, used, from) {
-        Next::Number(n) => NextLive::Number(n),
-        Next::Nothing => NextLive::Refused(7),
+        Next::Number(n) => LiveNumber::Number(n),
+        Next::Nothing => LiveNumber::Refused(7),
     }
 }
 

@@ -1,5 +1,5 @@
 // One partition from empty to full, saved over and erased. Each stage is a line.
-use flash::NextLive;
+use flash::LiveNumber;
 use scenarios::pages::format;
 use scenarios::pages::save_numbers;
 use scenarios::printing;
@@ -14,7 +14,7 @@ fn walked(image: &[u8], partition: u8, end: usize) -> usize {
     let mut live: usize = 0;
     let mut from: usize = 0;
     while live < end {
-        let NextLive::Number(n) = flash::next_live(image, partition, from) else {
+        let LiveNumber::Number(n) = flash::next_live(image, partition, from) else {
             return live;
         };
         if end <= n {
@@ -34,7 +34,7 @@ fn print_stage(stage: &[u8], image: &[u8], partition: u8, end: usize, round: usi
     text(b" ");
     text(stage);
     text(b":");
-    printing::counts(image, partition);
+    printing::report_values(image, partition);
     text(b" walked ");
     number(walked(image, partition, 2000));
     text(b" first 100");

@@ -6,6 +6,9 @@ ghost use Rattle.flash_model.specs.Measures as model;
 
 pub const BLOCK: usize = 64;
 
+// How many logical numbers the longest partition has.
+pub const NUMBERS: usize = 1021;
+
 // Whether a partition may be so long.
 pub fn legal_size(len: usize) -> bool
     ensures { λ r. ⌜ r ≡ model.legalSize len ⌝ }

@@ -18,7 +18,7 @@ use Rattle.flash_model.proofs.MeasureLaws.{legal-below}
 use Rattle.flash_model.proofs.HolderLaws.{matches}
 use Rattle.flash_model.proofs.MeaningLaws.{next-live, live-none}
 use Rattle.partition.specs.Usable.{Usable}
-use Rattle.partition.specs.Listing.{lowered, next}
+use Rattle.partition.specs.Listing.{lowered, asNext}
 use Rattle.partition.proofs.UsableLaws.{usable-measured, holder-some}
 
 -- some block below k matches the number
@@ -117,14 +117,14 @@ module _ (image : List ℕ) (size count : ℕ) (u : Usable image size count) (st
   lower-none : (n : ℕ) → start ≤ n → n < best → contents image n ≡ none
   lower-none n a c = no-contents n (omega (arith, c, b .bound)) (λ j lo hi. b .none-lower n j a c lo (omega (arith, hi, f)))
 
-  pub next-is : best < end → next (some best) ≡ next (lowestLive image start)
+  pub next-is : best < end → asNext (some best) ≡ asNext (lowestLive image start)
   next-is h =
-      ap next (sym (next-live image start best (u .is-sound) .1 (record {
+      ap asNext (sym (next-live image start best (u .is-sound) .1 (record {
         not-below = b .not-below h;
         is-live = has-contents best h (b .is-seen h);
         none-between = λ n a c. lower-none n a c;
       })))
 
-  pub next-none : end ≤ best → next none ≡ next (lowestLive image start)
+  pub next-none : end ≤ best → asNext none ≡ asNext (lowestLive image start)
   next-none h =
-      ap next (sym (live-none image start (λ n a c. lower-none n a (omega (arith, c, h, e, ap capacity (u .has-size))))))
+      ap asNext (sym (live-none image start (λ n a c. lower-none n a (omega (arith, c, h, e, ap capacity (u .has-size))))))

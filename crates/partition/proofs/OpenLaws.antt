@@ -16,18 +16,18 @@ use Rattle.flash_model.specs.Bitmap.{allocatedIn, lowestFreeIn, outOfSequence}
 use Rattle.flash_model.specs.Partition.{magic, headerNumber, version, bitmapOf, allocated, lowestFree, row, refusal, used}
 use Rattle.flash_model.proofs.MeasureLaws.{Measured, measures-of}
 use Rattle.flash_model.proofs.SequenceLaws.{up-to-sequence, first-free, all-pass}
-use Rattle.bitmap.specs.Over.{Over, found}
+use Rattle.bitmap.specs.Over.{Over, asFound}
 use Rattle.bitmap.specs.declared.Found.the-variants.{At, Nothing}
 use Rattle.measures.specs.declared.Measures.{Measures}
-use Rattle.partition.specs.Opening.{headerRefusal, opened}
+use Rattle.partition.specs.Opening.{headerRefusal, openingOf}
 use Rattle.partition.specs.declared.opening.Opened.the-variants.{Refused, Open}
 
 -- what a search's answer tells
-pub found-at : (o : Option ℕ) (k : ℕ) → found o ≡ At k → o ≡ some k
+pub found-at : (o : Option ℕ) (k : ℕ) → asFound o ≡ At k → o ≡ some k
 found-at none k e = let z : _≡_ {A = ℕ} 0 1 = cc in absurd (omega arith)
 found-at (some j) k e = let z : j ≡ k = cc in ap (λ (i : ℕ). some i) z
 
-pub found-nothing : (o : Option ℕ) → found o ≡ Nothing → o ≡ none
+pub found-nothing : (o : Option ℕ) → asFound o ≡ Nothing → o ≡ none
 found-nothing none e = refl
 found-nothing (some j) e = let z : _≡_ {A = ℕ} 0 1 = cc in absurd (omega arith)
 
@@ -48,8 +48,8 @@ module _ (image : List ℕ) (partition : ℕ) where
       go true true true true = refl
       go true true true false = refl
 
-  pub open-refused : (n : ℕ) → n ≡ headerRefusal image partition → (n ≡ 0 → ⊥) → Refused n ≡ opened image partition
-  unfolding opened
+  pub open-refused : (n : ℕ) → n ≡ headerRefusal image partition → (n ≡ 0 → ⊥) → Refused n ≡ openingOf image partition
+  unfolding openingOf
   open-refused n e h =
       let r : refusal image partition ≡ n = refusal-is ∙ rw (sym e, ne-eqb n 0 h) in
       rw (r, ne-eqb n 0 h)
@@ -97,15 +97,15 @@ module _ (image : List ℕ) (partition : ℕ) where
           (λ j a b. not-false (allocated image j) (l .none-below j a b)) (not-true (allocated image k) (l .passes)))
 
       pub open-gap : (size : ℕ) → size ≡ length image → anyOf (allocated image) (numbersFrom k (firstBitmap size - k)) ≡ true
-          → Refused 5 ≡ opened image partition
-      unfolding opened rest behind
+          → Refused 5 ≡ openingOf image partition
+      unfolding openingOf rest behind
       open-gap size s e =
           let r : refusal image partition ≡ 5 = rest-is ∙ rw (judged .0, sym s, e) in
           rw r
 
       pub open-free : (m : Measures) → m .size ≡ length image → anyOf (allocated image) (numbersFrom k (firstBitmap (m .size) - k)) ≡ false
-          → Open m (k - 1) ≡ opened image partition
-      unfolding opened rest behind
+          → Open m (k - 1) ≡ openingOf image partition
+      unfolding openingOf rest behind
       open-free m s e =
           let f = subst (λ (n : ℕ). anyOf (allocated image) (numbersFrom k (firstBitmap n - k)) ≡ false) s e in
           let r : refusal image partition ≡ 0 = rest-is ∙ rw (judged .0, f) in
@@ -128,8 +128,8 @@ module _ (image : List ℕ) (partition : ℕ) where
       unfolding used userBlocks
       all-used = all-pass (allocated image) 1 (capacity (length image)) (λ k lo hi. all-allocated k lo (omega (arith, hi)))
 
-      pub open-full : (m : Measures) → m .size ≡ length image → (n : ℕ) → n ≡ capacity (m .size) → Open m n ≡ opened image partition
-      unfolding opened rest
+      pub open-full : (m : Measures) → m .size ≡ length image → (n : ℕ) → n ≡ capacity (m .size) → Open m n ≡ openingOf image partition
+      unfolding openingOf rest
       open-full m s n e =
           let r : refusal image partition ≡ 0 = rest-is ∙ rw in-order in
           let f : n ≡ capacity (length image) = e ∙ ap capacity s in

@@ -34,6 +34,6 @@ nonzero area = length (keep (λ entry. not (eqb entry 0)) area)
 unfoldable pub lowered : ℕ → List ℕ → ℕ → ℕ
 lowered start block best = cond (leb start (number block) && (ltb (number block) best && rightChecksum block)) (number block) best
 
-abbrev pub next : Option ℕ → Next
-next none = Nothing
-next (some n) = Number n
+abbrev pub asNext : Option ℕ → Next
+asNext none = Nothing
+asNext (some n) = Number n

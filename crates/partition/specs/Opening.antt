@@ -19,5 +19,5 @@ headerRefusal image partition =
     (row 3 (not (eqb (headerNumber image) partition))
     (row 4 (ltb 1 (version image)) 0)))
 
-unfoldable pub opened : List ℕ → ℕ → Opened
-opened image partition = cond (eqb (refusal image partition) 0) (Open (record { size = length image }) (used image)) (Refused (refusal image partition))
+unfoldable pub openingOf : List ℕ → ℕ → Opened
+openingOf image partition = cond (eqb (refusal image partition) 0) (Open (record { size = length image }) (used image)) (Refused (refusal image partition))

@@ -10,7 +10,7 @@ ghost use lib.ListN.{length, take};
 ghost use Rattle.flash_model.specs.UserBlock as model;
 ghost use Rattle.flash_model.specs.Measures.{capacity};
 ghost use Rattle.flash_model.specs.Partition.{blockAt, holder};
-ghost use Rattle.bitmap.specs.Over.{Over, found};
+ghost use Rattle.bitmap.specs.Over.{Over, asFound};
 ghost use Rattle.partition.specs.Usable.{Usable};
 
 // The part of the image that begins with block k.
@@ -46,7 +46,7 @@ pub fn holds_number(part: &[u8], number: usize) -> bool
 // The block that holds the contents of a number: searched from the highest used block down.
 pub fn find(image: &[u8], m: Measures, used: usize, number: usize) -> Found
     requires { ⌜ Usable (now image) (m .size) used ⌝ }
-    ensures { λ r. ⌜ r ≡ found (holder (now (image .entry)) number) ⌝ }
+    ensures { λ r. ⌜ r ≡ asFound (holder (now (image .entry)) number) ⌝ }
 {
     if !m.legal_number(number) {
         return Found::Nothing;

@@ -10,7 +10,7 @@ ghost use lib.ListN.{length, take, drop, replicate};
 ghost use Rattle.flash_model.specs.Measures.{capacity};
 ghost use Rattle.flash_model.specs.Partition.{blockAt, live, lowestLive};
 ghost use Rattle.partition.specs.Usable.{Usable};
-ghost use Rattle.partition.specs.Listing.{places, placed, lowered, nonzero, next};
+ghost use Rattle.partition.specs.Listing.{places, placed, lowered, nonzero, asNext};
 
 // A logical number, or none.
 pub enum Next {
@@ -97,7 +97,7 @@ fn lower(part: &[u8], start: usize, best: usize) -> usize
 // The lowest live number not below the start.
 pub fn next_number(image: &[u8], m: Measures, used: usize, start: usize) -> Next
     requires { ⌜ Usable (now image) (m .size) used ⌝ }
-    ensures { λ r. ⌜ r ≡ next (lowestLive (now (image .entry)) start) ⌝ }
+    ensures { λ r. ⌜ r ≡ asNext (lowestLive (now (image .entry)) start) ⌝ }
 {
     let end = m.capacity();
     let mut best = end;

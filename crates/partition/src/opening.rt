@@ -3,7 +3,7 @@ use bitmap::Found;
 use measures::Measures;
 use words::same;
 ghost use mathlib.Core.Path.{_≡_};
-ghost use Rattle.partition.specs.Opening.{headerRefusal, opened};
+ghost use Rattle.partition.specs.Opening.{headerRefusal, openingOf};
 
 // The refusal's number, or the measures and how many user blocks are allocated.
 pub enum Opened {
@@ -33,7 +33,7 @@ fn header_refusal(image: &[u8], partition: u8) -> u8
 // The sequence of the bitmap is tested here and nowhere else: on a sound partition the allocated blocks are those from 1 to
 // the count.
 pub fn open(image: &[u8], partition: u8) -> Opened
-    ensures { λ r. ⌜ r ≡ opened (now (image .entry)) partition ⌝ }
+    ensures { λ r. ⌜ r ≡ openingOf (now (image .entry)) partition ⌝ }
 {
     let refused = header_refusal(image, partition);
     if refused != 0 {

@@ -1,8 +1,8 @@
 // Lines of the output, and what they tell of an image.
 use crate::pages::first_different;
 use crate::pages::save_round;
-use flash::Listing;
-use flash::NextLive;
+use flash::LiveNumber;
+use flash::Summary;
 use libc::STDOUT_FILENO;
 
 pub fn text(bytes: &[u8]) {
@@ -61,11 +61,11 @@ pub fn next_live(image: &[u8], partition: u8, from: usize) {
     text(b" from ");
     number(from);
     match flash::next_live(image, partition, from) {
-        NextLive::Refused(refused) => {
+        LiveNumber::Refused(refused) => {
             text(b": refused ");
             number(refused as usize);
         }
-        NextLive::Number(n) => {
+        LiveNumber::Number(n) => {
             text(b": number ");
             number(n);
         }
@@ -74,13 +74,13 @@ pub fn next_live(image: &[u8], partition: u8, from: usize) {
 }
 
 // The counts of a report, or its refusal.
-pub fn counts(image: &[u8], partition: u8) {
+pub fn report_values(image: &[u8], partition: u8) {
     match flash::report(image, partition) {
-        Listing::Refused(refused) => {
+        Summary::Refused(refused) => {
             text(b" refused ");
             number(refused as usize);
         }
-        Listing::Counted(c) => {
+        Summary::Counted(c) => {
             text(b" version ");
             number(c.version as usize);
             text(b" user ");
@@ -117,7 +117,7 @@ pub fn image_sum(image: &[u8]) {
 pub fn report(label: &[u8], image: &[u8], partition: u8) {
     text(label);
     text(b":");
-    counts(image, partition);
+    report_values(image, partition);
     image_sum(image);
     text(b"\n");
 }

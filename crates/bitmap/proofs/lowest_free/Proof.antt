@@ -7,7 +7,7 @@ use native.Mathlib.Omega.{arith}
 use Rattle.words.specs.Search.{lowest}
 use Rattle.words.proofs.LoopLaws.{lowest-here, lowest-next, lowest-end}
 use Rattle.flash_model.specs.Partition.{allocated, lowestFree}
-use Rattle.bitmap.specs.Over.{found}
+use Rattle.bitmap.specs.Over.{asFound}
 use Rattle.bitmap.proofs.BitReads.{over-measured, lowest-start}
 use borrow.Author.Needs.{needs}
 use Rattle.bitmap.proofs.lowest_free.Statement.{statement}
@@ -37,7 +37,7 @@ returns : tie.Need-returns Inv-loop μ-loop
 returns c =
     let l = c .before .before .before in
     let a = l .before .before .before in
-    sym (ap found (l .loop .inv .1
+    sym (ap asFound (l .loop .inv .1
     ∙ lowest-here (λ j. not (allocated (a .args .image .now) j)) (l .loop .k) (l .before .first-bitmap .result) (c .before .before .loop-test .taken) (ap not (sym (c .before .is-allocated .ensures)) ∙ c .if1 .taken)))
 
 add-k : tie.Need-add-k Inv-loop μ-loop
@@ -59,7 +59,7 @@ returns-2 : tie.Need-returns-2 Inv-loop μ-loop
 returns-2 c =
     let l = c .before in
     let a = l .before .before .before in
-    sym (ap found (l .loop .inv .1 ∙ lowest-end (λ j. not (allocated (a .args .image .now) j)) (l .loop .k) (l .before .first-bitmap .result) (c .loop-test .left)))
+    sym (ap asFound (l .loop .inv .1 ∙ lowest-end (λ j. not (allocated (a .args .image .now) j)) (l .loop .k) (l .before .first-bitmap .result) (c .loop-test .left)))
 
 pub lowest-free-spec : {M : Type 1} → statement M
 lowest-free-spec =

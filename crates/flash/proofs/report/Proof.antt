@@ -15,8 +15,8 @@ enum-known-refused c = search needs
 enum-known-m : tie.Need-enum-known-m
 enum-known-m c = search needs
 
-counts-requires : tie.Need-counts-requires
-counts-requires c κs =
+count-blocks-requires : tie.Need-count-blocks-requires
+count-blocks-requires c κs =
     let a = c .before .before .before .before .before in
     let i = a .args .image .now in
     opened-usable i (a .args .partition) _ _ (sym (c .before .before .before .«open» .ensures) ∙ c .before .m .given .1) .1
@@ -32,9 +32,9 @@ returns-2 c =
     let a = c .before .before .before .before .before .before in
     let i = a .args .image .now in
     let passed = opened-usable i (a .args .partition) _ _ (sym (c .before .before .before .before .«open» .ensures) ∙ c .before .before .m .given .1) .0 in
-    report-done i (a .args .partition) passed _ (c .counts .ensures)
+    report-done i (a .args .partition) passed _ (c .count-blocks .ensures)
 
 pub report-spec : {M : Type 1} → statement M
 report-spec =
     tie.close
-    (tie.spec open-requires enum-known-refused enum-known-m counts-requires returns returns-2)
+    (tie.spec open-requires enum-known-refused enum-known-m count-blocks-requires returns returns-2)

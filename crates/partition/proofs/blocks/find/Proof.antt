@@ -8,7 +8,7 @@ use Rattle.words.specs.Search.{highest}
 use Rattle.words.proofs.LoopLaws.{highest-here, highest-next, highest-end}
 use Rattle.flash_model.specs.Partition.{blockAt, holder}
 use Rattle.flash_model.proofs.HolderLaws.{matches}
-use Rattle.bitmap.specs.Over.{found}
+use Rattle.bitmap.specs.Over.{asFound}
 use Rattle.partition.proofs.UsableLaws.{usable-legal, usable-over, count-most, holder-none, holder-some}
 use borrow.Author.Needs.{needs}
 use Rattle.partition.proofs.blocks.find.Statement.{statement}
@@ -29,7 +29,7 @@ returns : tie.Need-returns Inv-loop μ-loop
 returns c =
     let a = c .before .before .before in
     let l = c .before .legal-number in
-    sym (ap found (holder-none (a .args .image .now) (a .args .m .size) (a .args .used) (a .pre) (a .args .number)
+    sym (ap asFound (holder-none (a .args .image .now) (a .args .m .size) (a .args .used) (a .pre) (a .args .number)
     (sym (l .ensures) ∙ not-true (l .result) (c .if1 .taken))))
 
 loop-holds : tie.Need-loop-holds Inv-loop μ-loop
@@ -55,7 +55,7 @@ returns-2 c =
     let l = c .before .before .before .before in
     let a = l .before .before .before .before in
     let here = ap (matches (a .args .number)) (sym (c .before .before .part-from .ensures .0)) ∙ sym (c .before .holds-number .ensures) ∙ c .if2 .taken in
-    sym (ap found (l .loop .inv .1
+    sym (ap asFound (l .loop .inv .1
     ∙ highest-here (λ j. matches (a .args .number) (blockAt (a .args .image .now) j)) (l .loop .k) (c .before .before .before .loop-test .taken) here))
 
 sub-k : tie.Need-sub-k Inv-loop μ-loop
@@ -75,7 +75,7 @@ loop-again c =
     )
 
 returns-3 : tie.Need-returns-3 Inv-loop μ-loop
-returns-3 c = sym (ap found (c .before .loop .inv .1 ∙ highest-end _ (c .before .loop .k) (c .loop-test .left)))
+returns-3 c = sym (ap asFound (c .before .loop .inv .1 ∙ highest-end _ (c .before .loop .k) (c .loop-test .left)))
 
 pub find-spec : {M : Type 1} → statement M
 find-spec =

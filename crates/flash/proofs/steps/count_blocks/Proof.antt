@@ -1,11 +1,11 @@
--- `steps::counts` meets its contract. Assumes nothing.
+-- `steps::count_blocks` meets its contract. Assumes nothing.
 use native.Mathlib.Omega.{arith}
 use Rattle.partition.proofs.UsableLaws.{usable-legal, usable-measured}
 use Rattle.compaction.proofs.RewriteLaws.{numbers-enough}
 use Rattle.flash.proofs.ReadLaws.{counts-are}
 use borrow.Author.Needs.{needs}
-use Rattle.flash.proofs.steps.counts.Statement.{statement}
-use Rattle.flash.proofs.steps.counts.Tie as tie
+use Rattle.flash.proofs.steps.count_blocks.Statement.{statement}
+use Rattle.flash.proofs.steps.count_blocks.Tie as tie
 
 slice-aggregate-list-places : tie.Need-slice-aggregate-list-places
 slice-aggregate-list-places c = search needs
@@ -54,8 +54,8 @@ returns c =
     let u = a .pre in
     counts-are i s (a .args .used) u _ _ (c .before .before .before .before .before .list-places .ensures) (c .before .before .before .capacity .result) (c .count-entries .result) (c .before .before .before .capacity .ensures) (c .count-entries .ensures)
 
-pub counts-spec : {M : Type 1} → statement M
-counts-spec =
+pub count-blocks-spec : {M : Type 1} → statement M
+count-blocks-spec =
     tie.close
     (tie.spec
     slice-aggregate-list-places
