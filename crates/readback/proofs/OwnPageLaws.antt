@@ -1,6 +1,6 @@
 -- A writer's page is read back, by demand 3's run theorem with its number the only one owned. Assumes nothing.
 use Prim.Native.Nat.{ℕ}
-use mathlib.Core.Path.{_≡_, refl, sym, ap, _∙_}
+use mathlib.Core.Path.{_≡_, refl, sym, ap, subst, _∙_}
 use mathlib.Core.List.{List, [], _∷_}
 use mathlib.Core.Option.{Option, none, some}
 use mathlib.Core.Logic.{if-pos, if-neg, Dec·not}
@@ -11,12 +11,23 @@ use lib.ListN.{length}
 use borrow.Author.Tests.{eq-eqb}
 use Rattle.flash_model.specs.Measures.{topNumber}
 use Rattle.flash_model.specs.Partition.{headerNumber}
-use Rattle.flash_model.specs.Calls.{PageCall, Reply}
-use Rattle.flash_model.specs.Calls.{PageCall.read, PageCall.save}
+use Rattle.flash_model.specs.Calls.{PageCall, Reply, after, Answered}
+use Rattle.flash_model.specs.Calls.{PageCall.read, PageCall.save, Call.onPage, Call.onWhole, WholeCall.erase}
 use Rattle.flash_model.specs.PageStore.{PageMap, ownedPages, samePage, storeCode, storeReply, storeAfter, storeReplies, storeFinal}
 use Rattle.flash_model.specs.Runs.{Step, Chain, final, ownedCalls, ownedAnswers}
 use Rattle.flash_model.proofs.RunLaws.{store-accepts, own-page, demand3}
-use Rattle.readback.specs.OwnPage.{OwnSave, OwnPageBack}
+use Rattle.readback.specs.OwnPage.{OwnSave, OwnPageBack, imageBefore}
+
+-- the images that the calls left, one after another
+pub final-read : (image : List ℕ) (partition n : ℕ) (expected page : List ℕ) (other : ℕ) (others back i1 i2 i3 : List ℕ) (r1 r2 r3 r4 : Reply)
+    → Answered image (onPage (save partition n expected page)) i1 r1 → Answered i1 (onPage (save partition other page others)) i2 r2
+    → Answered i2 (onWhole (erase partition)) i3 r3 → Answered i3 (onPage (read partition n back)) i3 r4
+    → Answered (imageBefore image partition n expected page other others) (onPage (read partition n back)) i3 r4
+unfolding imageBefore
+final-read image partition n expected page other others back i1 i2 i3 r1 r2 r3 r4 a b c d =
+    let e : i3 ≡ after (after (after image (onPage (save partition n expected page))) (onPage (save partition other page others))) (onWhole (erase partition)) =
+    c .image-is ∙ ap (λ (x : List ℕ). after x (onWhole (erase partition))) (b .image-is ∙ ap (λ (x : List ℕ). after x (onPage (save partition other page others))) (a .image-is)) in
+    subst (λ (x : List ℕ). Answered x (onPage (read partition n back)) i3 r4) e d
 
 module _ (image : List ℕ) (partition n : ℕ) (expected page back : List ℕ) (own : OwnSave image partition n expected page back) where
   abbrev saving : PageCall

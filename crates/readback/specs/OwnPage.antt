@@ -6,6 +6,7 @@ use mathlib.Core.Option.{some}
 use lib.ListN.{length}
 use Rattle.flash_model.specs.Measures.{topNumber}
 use Rattle.flash_model.specs.Partition.{headerNumber, Sound, contents}
+use Rattle.flash_model.specs.Calls.{after, Call.onPage, Call.onWhole, PageCall.save, WholeCall.erase}
 use Rattle.flash_model.specs.PageStore.{expectedPage}
 
 -- On a sound partition, of a legal number, with whole pages.
@@ -25,3 +26,8 @@ pub record OwnPageBack (image : List ℕ) (n : ℕ) (page image′ : List ℕ) (
   pub ends-sound : Sound image′
   pub same-length : length image′ ≡ length image
   pub same-number : headerNumber image′ ≡ headerNumber image
+
+-- The image before the last read, whatever is refused: of the calls made, two saves and an erase can change it.
+unfoldable pub imageBefore : List ℕ → ℕ → ℕ → List ℕ → List ℕ → ℕ → List ℕ → List ℕ
+imageBefore image partition n expected page other others =
+    after (after (after image (onPage (save partition n expected page))) (onPage (save partition other page others))) (onWhole (erase partition))

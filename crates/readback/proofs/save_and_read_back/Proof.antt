@@ -8,7 +8,7 @@ use Rattle.flash_model.specs.Calls.{Call, Reply}
 use Rattle.flash_model.specs.Calls.{Call.onPage, Call.onWhole, PageCall.read, PageCall.save, WholeCall.check, WholeCall.report, WholeCall.nextLive, WholeCall.erase}
 use Rattle.flash_model.specs.Runs.{Step, Chain}
 use Rattle.flash.specs.Answers.{numbered, listed, nextAnswer}
-use Rattle.readback.proofs.OwnPageLaws.{own-page-back}
+use Rattle.readback.proofs.OwnPageLaws.{final-read, own-page-back}
 use borrow.Author.Needs.{needs}
 use Rattle.readback.proofs.save_and_read_back.Statement.{statement}
 use Rattle.readback.proofs.save_and_read_back.Tie as tie
@@ -44,7 +44,7 @@ same-length-2 : tie.Need-same-length-2
 same-length-2 c = search needs
 
 returns : tie.Need-returns
-returns c own apart =
+returns c =
     let a = c .before .before .before .before .before .before .before .before .before .before .before .before .before .before .before .before .before .before .before .before .before .before .before .before .before .before .before .before in
     let i = a .args .image .now in
     let p = a .args .partition in
@@ -74,9 +74,12 @@ returns c own apart =
     ∷ step (onPage (read p n back)) (numbered (last .result) (left ∷ [])) i3
     ∷ [] in
     let chain : Chain i steps = (one .ensures, (checked .ensures, (two .ensures, (counted .ensures, (looked .ensures, (three .ensures, (last .ensures, tt))))))) in
-    let mine = eq-eqb n n refl in
-    let theirs = ne-eqb n (a .args .other) (λ q. apart (sym q)) in
-    own-page-back i p n e page back own steps chain (rw (mine, theirs)) (numbered (one .result) (e ∷ page ∷ [])) (numbered (last .result) (left ∷ [])) left (rw (mine, theirs)) refl
+    let mine = eq-eqb n n refl in (
+      final-read i p n e page (a .args .other) others back i1 i2 i3 _ _ _ _ (one .ensures) (two .ensures) (three .ensures) (last .ensures),
+      λ own apart.
+          let theirs = ne-eqb n (a .args .other) (λ q. apart (sym q)) in
+          own-page-back i p n e page back own steps chain (rw (mine, theirs)) (numbered (one .result) (e ∷ page ∷ [])) (numbered (last .result) (left ∷ [])) left (rw (mine, theirs)) refl,
+    )
 
 pub save-and-read-back-spec : {M : Type 1} → statement M
 save-and-read-back-spec =
