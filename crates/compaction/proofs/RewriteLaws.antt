@@ -1,14 +1,15 @@
 -- What moving, writing and finishing come to: the compacted image. Assumes nothing.
 use Prim.Native.Nat.{ℕ, suc, _+_, _*_, _-_, _≤_}
-use mathlib.Core.Path.{_≡_, refl, sym, ap, _∙_}
+use mathlib.Core.Path.{_≡_, refl, _∙_}
 use mathlib.Core.Bool.{true}
-use mathlib.Core.List.{List, [], _∷_, _++_, append-assoc, append-nil}
+use mathlib.Core.List.{List, [], _∷_, _++_, append-assoc}
 use native.Mathlib.Omega.{arith}
 use lib.Dec.{leb}
 use lib.ListN.{length, take, drop, replicate, length-append}
 use lib.Seq.{take-at, length-take-le}
 use borrow.Author.Tests.{leb-true}
 use Rattle.words.specs.Lists.{concat}
+use Rattle.words.proofs.JoinLaws.{concat-snoc}
 use Rattle.flash_model.specs.Measures.{sizes, legalSize, blocks, bitmapBlocks, firstBitmap, capacity}
 use Rattle.flash_model.proofs.MeasureLaws.{in-table}
 use Rattle.flash_model.specs.Update.{bitsCleared, withBlock, rewritten, compacted}
@@ -23,10 +24,6 @@ finished image front kept size next l f n =
     rw (f, s, c)
 
 -- one block more behind the front
-concat-snoc : (kept : List (List ℕ)) (new : List ℕ) → concat (kept ++ new ∷ []) ≡ concat kept ++ new
-concat-snoc [] new = append-nil new
-concat-snoc (b ∷ kept) new = ap (λ (l : List ℕ). b ++ l) (concat-snoc kept new) ∙ sym (append-assoc b (concat kept) new)
-
 pub front-more : (image moved new : List ℕ) (kept : List (List ℕ)) (next : ℕ) → next * 64 + 64 ≤ length moved → length new ≡ 64
     → take (next * 64) moved ≡ take 64 image ++ concat kept
     → take ((next + 1) * 64) (withBlock moved next new) ≡ take 64 image ++ concat (kept ++ new ∷ [])

@@ -9,10 +9,10 @@ use native.Mathlib.Omega.{arith}
 use lib.Dec.{eqb}
 use lib.ListN.{length, length-map}
 use borrow.Author.Tests.{ne-eqb}
-use Rattle.words.specs.Lists.{keep, isSome, numbersFrom}
+use Rattle.words.specs.Lists.{keep, has, Distinct, isSome, numbersFrom}
 use Rattle.words.proofs.ListLaws.{All, all-mono, all-map, keep-passes, keep-map, any-map}
 use Rattle.words.proofs.SearchLaws.{lastWith, last-any}
-use Rattle.words.proofs.Distinct.{has, Distinct, except, room-for, count-has}
+use Rattle.words.proofs.Distinct.{except, room-for, count-has}
 use Rattle.flash_model.specs.Measures.{capacity, topNumber, userBlocks, logicalNumbers}
 use Rattle.flash_model.specs.UserBlock.{number, payload}
 use Rattle.flash_model.specs.Partition.{blockAt, holder, contents, live}

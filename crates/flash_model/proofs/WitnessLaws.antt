@@ -13,6 +13,7 @@ use lib.Seq.{drop-append-add}
 use borrow.Author.Tests.{eqb-true, eq-eqb, leb-true, le-leb, lt-leb}
 use Rattle.words.specs.Lists.{numbersFrom}
 use Rattle.words.proofs.ListLaws.{All, all-map, all-range, drop-replicate, take-replicate}
+use Rattle.words.proofs.PartsLaws.{numbers-length}
 use Rattle.words.proofs.SearchLaws.{last-map, last-all, range-last}
 use Rattle.flash_model.specs.Measures.{sizes, legalSize, firstBitmap, capacity, topNumber, legalNumber}
 use Rattle.flash_model.specs.Bitmap.{bitByte, allocatedIn, outOfSequence}
@@ -160,10 +161,6 @@ module _ (size partition : ℕ) (page : List ℕ) (legal : legalSize size ≡ tr
 
   all-blocks : List (List ℕ)
   all-blocks = map (λ n. newBlock n page) (numbersFrom 0 (capacity size))
-
-  numbers-length : (k n : ℕ) → length (numbersFrom k n) ≡ n
-  numbers-length k zero = refl
-  numbers-length k (suc n) = ap suc (numbers-length (suc k) n)
 
   all-length : length all-blocks ≡ capacity size
   unfolding all-blocks

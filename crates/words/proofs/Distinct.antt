@@ -10,16 +10,9 @@ use lib.Dec.{eqb}
 use lib.ListN.{length}
 use native.Mathlib.Decide.{ℕ-discrete}
 use borrow.Author.Tests.{eqb-true, eqb-false, eq-eqb, ne-eqb}
-use Rattle.words.specs.Lists.{keep, anyOf, numbersFrom}
+use Rattle.words.specs.Lists.{keep, has, Distinct, numbersFrom}
 use Rattle.words.proofs.Bools.{or-false-left, or-false-right}
 use Rattle.words.proofs.ListLaws.{All, all-keep, none-keep}
-
-abbrev pub has : ℕ → List ℕ → Bool
-has n = anyOf (λ m. eqb m n)
-
-abbrev pub Distinct : List ℕ → Type 0
-Distinct [] = Unit {0}
-Distinct (x ∷ l) = (has x l ≡ false) × Distinct l
 
 abbrev pub except : ℕ → List ℕ → List ℕ
 except k = keep (λ x. not (eqb x k))
@@ -74,14 +67,14 @@ room-for k n l h d a =
 
 -- ---- how many numbers of a range are in the list
 
-abbrev count : (ℕ → Bool) → ℕ → ℕ → ℕ
+abbrev pub count : (ℕ → Bool) → ℕ → ℕ → ℕ
 count p k n = length (keep p (numbersFrom k n))
 
-abbrev one : Bool → ℕ
+abbrev pub one : Bool → ℕ
 one true = 1
 one false = 0
 
-count-next : (p : ℕ → Bool) (k n : ℕ) → count p k (suc n) ≡ one (p k) + count p (suc k) n
+pub count-next : (p : ℕ → Bool) (k n : ℕ) → count p k (suc n) ≡ one (p k) + count p (suc k) n
 count-next p k n = go (p k)
   where
     go : (t : Bool) → length (cond t (k ∷ keep p (numbersFrom (suc k) n)) (keep p (numbersFrom (suc k) n))) ≡ one t + count p (suc k) n

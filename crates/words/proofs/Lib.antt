@@ -4,3 +4,5 @@ pub mod SearchLaws
 pub mod WordLaws
 pub mod Distinct
 pub mod LoopLaws
+pub mod JoinLaws
+pub mod PartsLaws

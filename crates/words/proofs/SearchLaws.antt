@@ -150,6 +150,15 @@ lowest-none p a (suc n) e k b c = go (lowest-none p (suc a) n) (p a) refl e (ℕ
     go ih false q f (yes d) = subst (λ (i : ℕ). p i ≡ false) (sym d) q
     go ih false q f (no d) = ih f k (omega (arith, d)) (omega arith)
 
+pub any-lowest : (p : ℕ → Bool) (a n : ℕ) → anyOf p (numbersFrom a n) ≡ isSome (lowest p a n)
+any-lowest p a zero = refl
+any-lowest p a (suc n) = go (p a) (any-lowest p (suc a) n)
+  where
+    go : (t : Bool) → anyOf p (numbersFrom (suc a) n) ≡ isSome (lowest p (suc a) n)
+        → (t || anyOf p (numbersFrom (suc a) n)) ≡ isSome (cond t (some a) (lowest p (suc a) n))
+    go true e = refl
+    go false e = e
+
 -- ---- the last element that passes
 
 module _ {A : Type 0} where

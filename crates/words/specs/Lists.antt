@@ -1,9 +1,11 @@
 -- Plain functions on lists and on optional values.
 -- Assumes nothing.
 use Prim.Native.Nat.{ℕ, zero, suc}
+use mathlib.Core.Path.{_≡_}
 use mathlib.Core.Bool.{Bool, true, false, cond, _||_}
 use mathlib.Core.List.{List, [], _∷_, _++_}
 use mathlib.Core.Option.{Option, none, some}
+use lib.Dec.{eqb}
 
 module _ {A : Type 0} where
   -- The elements that pass the test, in order. (The library's `filter` takes a decision and no test.)
@@ -29,6 +31,15 @@ module _ {A : Type 0} where
   abbrev pub toList : Option A → List A
   toList none = []
   toList (some x) = x ∷ []
+
+-- The number is in the list.
+abbrev pub has : ℕ → List ℕ → Bool
+has n = anyOf (λ m. eqb m n)
+
+-- No number is in the list twice.
+abbrev pub Distinct : List ℕ → Type 0
+Distinct [] = Unit {0}
+Distinct (x ∷ l) = (has x l ≡ false) × Distinct l
 
 -- The n numbers from k upwards.
 abbrev pub numbersFrom : ℕ → ℕ → List ℕ
