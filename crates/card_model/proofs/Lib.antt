@@ -1,0 +1,7 @@
+pub mod ChainLaws
+pub mod EntryLaws
+pub mod SoundLaws
+pub mod FileLaws
+pub mod ReadLaws
+pub mod WitnessLaws
+pub mod TheoremLaws

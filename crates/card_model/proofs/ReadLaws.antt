@@ -1,0 +1,118 @@
+-- What listings and reads give on a card that passes the check: the used entries in order, each file under its name, and a
+-- file's blocks in order as its bytes. Assumes nothing.
+use Prim.Native.Nat.{ℕ, _*_, _-_, _≤_, _<_}
+use mathlib.Core.Path.{_≡_, sym, ap, _∙_}
+use mathlib.Core.Bool.{false}
+use mathlib.Core.List.{List, [], map, append-nil}
+use mathlib.Core.Option.{some}
+use native.Mathlib.Omega.{arith}
+use lib.ListN.{length, getD, take, drop, length-map, length-drop, List·getD-map}
+use lib.Seq.{length-take-le}
+use borrow.Author.Tests.{eq-eqb, lt-leb}
+use Rattle.words.specs.Lists.{concat, numbersFrom}
+use Rattle.words.proofs.ListLaws.{All, all-map, all-mono, map-same}
+use Rattle.words.proofs.SearchLaws.{lowest-is, lowest-nothing}
+use Rattle.words.proofs.WordLaws.{same-refl}
+use Rattle.words.proofs.PartsLaws.{part-at, numbers-read}
+use Rattle.words.proofs.JoinLaws.{none-range}
+use Rattle.verdicts.specs.declared.Place.the-variants.{Whole}
+use Rattle.verdicts.specs.Rows.{done, refusedAt}
+use Rattle.card_model.specs.Layout.{cardLength, blockAt, tableOf, directoryOf}
+use Rattle.card_model.specs.Entries.{firstBlock, nameOf, size, isUsed, isNamed, nameTaken}
+use Rattle.card_model.specs.Files.{chain}
+use Rattle.card_model.specs.Calls.{firstUsed, listedEntry, notListed, listOf, named, readRows, readVerdict, fileBlock, readBuffer, SoundCard}
+use Rattle.card_model.specs.Theorems.{NoRowRefuses, UsedEntry, entryOn, fileOn, fileBytes}
+use Rattle.card_model.proofs.EntryLaws.{entry-length, right-entry, file-chain}
+use Rattle.card_model.proofs.SoundLaws.{sound-rows}
+use Rattle.card_model.proofs.ChainLaws.{chain-length, chain-below}
+
+-- ---- listings
+
+pub lists : (card : List ℕ) → SoundCard card → (start i : ℕ) → UsedEntry card i → start ≤ i
+    → ((j : ℕ) → start ≤ j → j < i → isUsed (entryOn card j) ≡ false) → listOf card start ≡ listedEntry i (entryOn card i)
+unfolding listOf firstUsed
+lists card s start i u h f =
+    let e = lowest-is (λ j. isUsed (entryOn card j)) start (208 - start) i
+    (record { low = h; high = omega (arith, u .in-directory); passes = u .is-used; none-below = f }) in
+    rw (s, e)
+
+pub lists-none : (card : List ℕ) → SoundCard card → (start : ℕ)
+    → ((j : ℕ) → start ≤ j → j < 208 → isUsed (entryOn card j) ≡ false) → listOf card start ≡ notListed (refusedAt 31 Whole)
+unfolding listOf firstUsed
+lists-none card s start f =
+    rw (s, lowest-nothing (λ j. isUsed (entryOn card j)) start (208 - start) (λ j a b. f j a (omega arith)))
+
+-- ---- blocks and names
+
+block-length : (card : List ℕ) (b : ℕ) → length card ≡ cardLength → b < 200 → length (blockAt card b) ≡ 512
+unfolding blockAt cardLength
+block-length card b e h = length-take-le 512 (drop (b * 512) card) (omega (arith, length-drop (b * 512) card))
+
+name-length : (card : List ℕ) (i : ℕ) → length card ≡ cardLength → i < 208 → length (nameOf (entryOn card i)) ≡ 12
+unfolding nameOf cardLength
+name-length card i e h =
+    let entry = entryOn card i in
+    length-take-le 12 (drop 0x04 entry) (omega (arith, length-drop 0x04 entry, entry-length card i e h))
+
+module _ (card : List ℕ) (s : SoundCard card) (i : ℕ) (u : UsedEntry card i) where
+  rows : NoRowRefuses card
+  rows = sound-rows card s
+
+  abbrev name : List ℕ
+  name = nameOf (entryOn card i)
+
+  pub found-by-name : named (directoryOf card) (nameOf (entryOn card i)) ≡ some i
+  unfolding named isNamed nameTaken
+  found-by-name =
+      lowest-is (λ j. isNamed name (entryOn card j)) 0 208 i (record {
+        low = omega arith;
+        high = omega (arith, u .in-directory);
+        passes = rw (u .is-used) (same-refl name);
+        none-below = λ j a b. none-range (λ k. isNamed name (entryOn card k)) 0 i (rw (u .is-used) at (rows .names i (u .in-directory))) j a (omega arith);
+      })
+
+  -- ---- its file's blocks
+
+  abbrev blocks : List (List ℕ)
+  blocks = map (blockAt card) (fileOn card i)
+
+  chain-is : chain (tableOf card) (size (entryOn card i)) (firstBlock (entryOn card i)) ≡ some (fileOn card i)
+  chain-is = file-chain (entryOn card i) (u .is-used) (tableOf card) (rows .chains i (u .in-directory))
+
+  blocks-many : length blocks ≡ size (entryOn card i)
+  blocks-many = length-map (fileOn card i) (blockAt card) ∙ chain-length (tableOf card) (size (entryOn card i)) _ (fileOn card i) chain-is
+
+  blocks-wide : All (λ b. length b ≡ 512) blocks
+  blocks-wide =
+      let low = right-entry (entryOn card i) (u .is-used) (rows .entries i (u .in-directory)) .0 in
+      all-map (blockAt card) (λ b. length b ≡ 512) (fileOn card i)
+      (all-mono (λ b. b < 200) (λ b. length (blockAt card b) ≡ 512) (λ b h. block-length card b (rows .long) h) (fileOn card i)
+      (chain-below (tableOf card) (size (entryOn card i)) (firstBlock (entryOn card i)) (fileOn card i) chain-is low))
+
+  module _ (index : ℕ) (buffer : List ℕ) (h : index < size (entryOn card i)) (l : length buffer ≡ 512) where
+    read-done : readVerdict card name index buffer ≡ done
+    unfolding readVerdict readRows
+    read-done =
+        rw (s, found-by-name, eq-eqb (length name) 12 (name-length card i (rows .long) (u .in-directory)), eq-eqb (length buffer) 512 l, lt-leb _ index h)
+
+    read-is : readBuffer card name index buffer ≡ getD blocks index (blockAt card 0)
+    unfolding readBuffer fileBlock
+    read-is = rw (read-done, found-by-name) (sym (List·getD-map (blockAt card) (fileOn card i) index 0))
+
+    block-is : take 512 (drop (index * 512) (fileBytes card i)) ≡ getD blocks index (blockAt card 0)
+    unfolding fileBytes
+    block-is = rw append-nil at (part-at 512 blocks [] (blockAt card 0) index blocks-wide (omega (arith, blocks-many)))
+
+pub reads-block : (card : List ℕ) → SoundCard card → (i index : ℕ) (buffer : List ℕ) → UsedEntry card i → index < size (entryOn card i) → length buffer ≡ 512
+    → (readVerdict card (nameOf (entryOn card i)) index buffer ≡ done)
+    × (readBuffer card (nameOf (entryOn card i)) index buffer ≡ take 512 (drop (index * 512) (fileBytes card i)))
+reads-block card s i index buffer u h l =
+    (read-done card s i u index buffer h l, read-is card s i u index buffer h l ∙ sym (block-is card s i u index buffer h l))
+
+pub reads-file : (card : List ℕ) → SoundCard card → (i : ℕ) (buffer : List ℕ) → UsedEntry card i → length buffer ≡ 512
+    → concat (map (λ index. readBuffer card (nameOf (entryOn card i)) index buffer) (numbersFrom 0 (size (entryOn card i)))) ≡ fileBytes card i
+unfolding fileBytes
+reads-file card s i buffer u l =
+    let parts = blocks card s i u in
+    ap concat (map-same (λ index. readBuffer card (nameOf (entryOn card i)) index buffer) (λ index. getD parts index (blockAt card 0)) 0 (size (entryOn card i))
+    (λ index a b. read-is card s i u index buffer (omega arith) l) ∙ numbers-read parts (size (entryOn card i)) (blockAt card 0) (blocks-many card s i u))

@@ -1,0 +1,28 @@
+-- All of the card's theorems. Assumes nothing.
+use Rattle.card_model.specs.Theorems.{Theorems}
+use Rattle.card_model.proofs.SoundLaws as sound
+use Rattle.card_model.proofs.FileLaws as files
+use Rattle.card_model.proofs.ReadLaws as reads
+use Rattle.card_model.proofs.WitnessLaws as witnesses
+
+pub theorems : Theorems
+theorems = record {
+  sound-exactly = sound.sound-exactly;
+  sound-file = files.sound-file;
+  files-apart = files.files-apart;
+  at-most-200 = files.at-most-200;
+  all-blocks = files.all-blocks;
+  game-place = files.game-place;
+  one-game = files.one-game;
+  lists = reads.lists;
+  lists-none = reads.lists-none;
+  found-by-name = reads.found-by-name;
+  reads-block = reads.reads-block;
+  reads-file = reads.reads-file;
+  empty-sound = witnesses.empty-sound;
+  empty-unused = witnesses.empty-unused;
+  files-sound = witnesses.files-sound;
+  files-kinds = witnesses.files-kinds;
+  files-are = witnesses.files-are;
+  files-orphans = witnesses.files-orphans;
+}

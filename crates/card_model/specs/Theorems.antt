@@ -1,0 +1,118 @@
+-- What is proved of the definitions, above all of a card that passes the check.
+-- Assumes nothing.
+use Prim.Native.Nat.{ℕ, _+_, _*_, _≤_, _<_}
+use mathlib.Core.Path.{_≡_}
+use mathlib.Core.Bool.{Bool, true, false}
+use mathlib.Core.List.{List, [], _∷_, map}
+use mathlib.Core.Option.{some}
+use mathlib.Core.Logic.{_↔_, _≢_}
+use lib.ListN.{length, take, drop, replicate}
+use Rattle.words.specs.Lists.{keep, has, Distinct, concat, numbersFrom}
+use Rattle.verdicts.specs.declared.Place.the-variants.{Whole}
+use Rattle.verdicts.specs.Rows.{done, refusedAt}
+use Rattle.card_model.specs.declared.Link.{Link}
+use Rattle.card_model.specs.declared.Link.the-variants.{Free, Damaged, Last, Next, Bad}
+use Rattle.card_model.specs.Layout.{cardLength, blockAt, rootOf, tableOf, directoryOf}
+use Rattle.card_model.specs.Table.{rightFields, fatEntry, linkAt, systemEntry, freeOrDamaged, isBad}
+use Rattle.card_model.specs.Entries.{nameOf, size, isUsed, isData, isGame, wrongEntry, entryAt, nameTaken}
+use Rattle.card_model.specs.Files.{badChain, fileOf, filesBefore, sharesBlock, breaksGameRule, orphans}
+use Rattle.card_model.specs.Calls.{listedEntry, notListed, listOf, named, readVerdict, readBuffer, SoundCard}
+use Rattle.card_model.specs.Examples.{emptyCard, filesCard}
+
+-- Every fact of rows 20 to 30.
+pub record NoRowRefuses (card : List ℕ) : Type 0 where
+  pub long : length card ≡ cardLength
+  pub magic : take 16 (rootOf card) ≡ replicate 16 0x55
+  pub fields : rightFields (rootOf card) ≡ true
+  pub system : (b : ℕ) → 241 ≤ b → b < 256 → fatEntry (tableOf card) b ≡ systemEntry b
+  pub hidden : (b : ℕ) → 200 ≤ b → b < 241 → freeOrDamaged (linkAt (tableOf card) b) ≡ true
+  pub user : (b : ℕ) → b < 200 → isBad (linkAt (tableOf card) b) ≡ false
+  pub entries : (i : ℕ) → i < 208 → wrongEntry (entryAt (directoryOf card) i) ≡ false
+  pub chains : (i : ℕ) → i < 208 → badChain (tableOf card) (entryAt (directoryOf card) i) ≡ false
+  pub apart : (i : ℕ) → i < 208 → sharesBlock (tableOf card) (directoryOf card) i ≡ false
+  pub names : (i : ℕ) → i < 208 → nameTaken (directoryOf card) i ≡ false
+  pub games : (i : ℕ) → i < 208 → breaksGameRule (tableOf card) (directoryOf card) i ≡ false
+
+-- ---- a card, its entry i and that entry's file
+
+abbrev pub entryOn : List ℕ → ℕ → List ℕ
+entryOn card i = entryAt (directoryOf card) i
+
+abbrev pub fileOn : List ℕ → ℕ → List ℕ
+fileOn card i = fileOf (tableOf card) (entryOn card i)
+
+-- The bytes of the file: those of its blocks, in order.
+unfoldable pub fileBytes : List ℕ → ℕ → List ℕ
+fileBytes card i = concat (map (blockAt card) (fileOn card i))
+
+-- Entry i is in the directory and used.
+pub record UsedEntry (card : List ℕ) (i : ℕ) : Type 0 where
+  pub in-directory : i < 208
+  pub is-used : isUsed (entryOn card i) ≡ true
+
+-- "each chain has exactly its entry's size and stays in 0..199", and repeats no block.
+pub record SoundFile (card : List ℕ) (i : ℕ) : Type 0 where
+  pub has-size : length (fileOn card i) ≡ size (entryOn card i)
+  pub not-empty : 1 ≤ size (entryOn card i)
+  pub user-blocks : (b : ℕ) → has b (fileOn card i) ≡ true → b < 200
+  pub no-repeat : Distinct (fileOn card i)
+
+abbrev pub isFree : Link → Bool
+isFree Free = true
+isFree Damaged = false
+isFree Last = false
+isFree (Next n) = false
+isFree Bad = false
+
+abbrev pub isDamaged : Link → Bool
+isDamaged Free = false
+isDamaged Damaged = true
+isDamaged Last = false
+isDamaged (Next n) = false
+isDamaged Bad = false
+
+-- How many user blocks have an entry of this class.
+abbrev pub countBlocks : List ℕ → (Link → Bool) → ℕ
+countBlocks card class = length (keep (λ b. class (linkAt (tableOf card) b)) (numbersFrom 0 200))
+
+-- How many blocks the files have together.
+abbrev pub fileBlocks : List ℕ → ℕ
+fileBlocks card = length (filesBefore (tableOf card) (directoryOf card) 208)
+
+pub record Theorems : Type 0 where
+  -- the check is passed exactly when no row refuses
+  pub sound-exactly : (card : List ℕ) → SoundCard card ↔ NoRowRefuses card
+  pub sound-file : (card : List ℕ) → SoundCard card → (i : ℕ) → UsedEntry card i → SoundFile card i
+  -- "chains of different used entries share no block"
+  pub files-apart : (card : List ℕ) → SoundCard card → (i j b : ℕ) → UsedEntry card i → UsedEntry card j → i ≢ j
+      → has b (fileOn card i) ≡ true → has b (fileOn card j) ≡ false
+  -- "used entries are at most 200"
+  pub at-most-200 : (card : List ℕ) → SoundCard card → length (keep (λ i. isUsed (entryOn card i)) (numbersFrom 0 208)) ≤ 200
+  -- "orphans plus file blocks plus free and damaged blocks make 200"
+  pub all-blocks : (card : List ℕ) → SoundCard card
+      → orphans (tableOf card) (directoryOf card) + fileBlocks card + countBlocks card isFree + countBlocks card isDamaged ≡ 200
+  -- a game lies in blocks 0, 1, 2 and on, and there is at most one
+  pub game-place : (card : List ℕ) → SoundCard card → (i : ℕ) → UsedEntry card i → isGame (entryOn card i) ≡ true
+      → (fileOn card i ≡ numbersFrom 0 (size (entryOn card i))) × (size (entryOn card i) ≤ 128)
+  pub one-game : (card : List ℕ) → SoundCard card → (i j : ℕ) → UsedEntry card i → UsedEntry card j
+      → isGame (entryOn card i) ≡ true → isGame (entryOn card j) ≡ true → i ≡ j
+  -- a listing gives the first used entry not below the start, and 31 where there is none
+  pub lists : (card : List ℕ) → SoundCard card → (start i : ℕ) → UsedEntry card i → start ≤ i
+      → ((j : ℕ) → start ≤ j → j < i → isUsed (entryOn card j) ≡ false) → listOf card start ≡ listedEntry i (entryOn card i)
+  pub lists-none : (card : List ℕ) → SoundCard card → (start : ℕ)
+      → ((j : ℕ) → start ≤ j → j < 208 → isUsed (entryOn card j) ≡ false) → listOf card start ≡ notListed (refusedAt 31 Whole)
+  -- a name finds its own entry
+  pub found-by-name : (card : List ℕ) → SoundCard card → (i : ℕ) → UsedEntry card i → named (directoryOf card) (nameOf (entryOn card i)) ≡ some i
+  -- "a file's blocks read in order are its bytes"
+  pub reads-block : (card : List ℕ) → SoundCard card → (i index : ℕ) (buffer : List ℕ) → UsedEntry card i → index < size (entryOn card i) → length buffer ≡ 512
+      → (readVerdict card (nameOf (entryOn card i)) index buffer ≡ done)
+      × (readBuffer card (nameOf (entryOn card i)) index buffer ≡ take 512 (drop (index * 512) (fileBytes card i)))
+  pub reads-file : (card : List ℕ) → SoundCard card → (i : ℕ) (buffer : List ℕ) → UsedEntry card i → length buffer ≡ 512
+      → concat (map (λ index. readBuffer card (nameOf (entryOn card i)) index buffer) (numbersFrom 0 (size (entryOn card i)))) ≡ fileBytes card i
+  -- not vacuous
+  pub empty-sound : SoundCard emptyCard
+  pub empty-unused : (i : ℕ) → i < 208 → isUsed (entryOn emptyCard i) ≡ false
+  pub files-sound : SoundCard filesCard
+  pub files-kinds : (isData (entryOn filesCard 0) ≡ true) × (isGame (entryOn filesCard 1) ≡ true) × (isData (entryOn filesCard 3) ≡ true)
+  pub files-are : (fileOn filesCard 0 ≡ 199 ∷ 198 ∷ []) × (fileOn filesCard 1 ≡ 0 ∷ 1 ∷ 2 ∷ []) × (fileOn filesCard 3 ≡ 190 ∷ [])
+  pub files-orphans : orphans (tableOf filesCard) (directoryOf filesCard) ≡ 1

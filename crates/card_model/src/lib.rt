@@ -1,0 +1,31 @@
+// What a memory card means: definitions in specs/, theorems in proofs/. Here stand only the types that both the definitions
+// and the calls use.
+use verdicts::Verdict;
+
+// What the table says of a block: document 01, "FFFC is free, FFFF damaged, FFFA last, and 0 to 199 the next block".
+pub enum Link {
+    Free,
+    Damaged,
+    Last,
+    Next(usize),
+    Bad,
+}
+
+// The answer of a check. Orphans are document 01's strays; 0 where the card is refused.
+pub struct Checked {
+    pub verdict: Verdict,
+    pub orphans: usize,
+}
+
+// The answer of a listing: a used entry's number and fields; zeros where it is refused.
+pub struct Listing {
+    pub verdict: Verdict,
+    pub entry: usize,
+    pub kind: u8,
+    pub flag: u8,
+    pub first: usize,
+    pub size: usize,
+    pub offset: usize,
+    pub name: [u8; 12],
+    pub time: [u8; 8],
+}
