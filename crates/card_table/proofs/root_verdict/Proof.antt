@@ -1,0 +1,51 @@
+-- `root_verdict` meets its contract: each `return` is a row of the table. Assumes nothing.
+use borrow.Author.Tests.{not-true, not-false}
+use mathlib.Core.Path.{sym, _∙_}
+use Rattle.card_model.specs.Table.{magicRow, fieldsRow}
+use borrow.Author.Needs.{needs}
+use Rattle.card_table.proofs.root_verdict.Statement.{statement}
+use Rattle.card_table.proofs.root_verdict.Tie as tie
+
+sub-same : tie.Need-sub-same
+sub-same c = search needs
+
+part-same-start : tie.Need-part-same-start
+part-same-start c = search needs
+
+part-same-end : tie.Need-part-same-end
+part-same-end c = search needs
+
+slice-aggregate-same : tie.Need-slice-aggregate-same
+slice-aggregate-same c = search needs
+
+same-requires : tie.Need-same-requires
+same-requires c κs = search needs
+
+returns : tie.Need-returns
+unfolding magicRow
+returns c = rw (sym (c .before .same .ensures) ∙ not-true _ (c .if1 .taken))
+
+right-fields-requires : tie.Need-right-fields-requires
+right-fields-requires c κs = search needs
+
+returns-2 : tie.Need-returns-2
+unfolding magicRow fieldsRow
+returns-2 c = rw (sym (c .before .before .before .same .ensures) ∙ not-false _ (c .before .before .if1 .left), sym (c .before .right-fields .ensures) ∙ not-true _ (c .if2 .taken))
+
+returns-3 : tie.Need-returns-3
+unfolding magicRow fieldsRow
+returns-3 c = rw (sym (c .before .before .before .same .ensures) ∙ not-false _ (c .before .before .if1 .left), sym (c .before .right-fields .ensures) ∙ not-false _ (c .if2 .left))
+
+pub root-verdict-spec : {M : Type 1} → statement M
+root-verdict-spec =
+    tie.close
+    (tie.spec
+    sub-same
+    part-same-start
+    part-same-end
+    slice-aggregate-same
+    same-requires
+    returns
+    right-fields-requires
+    returns-2
+    returns-3)

@@ -1,0 +1,185 @@
+// The root block and the table of a card: refusals 20 to 25, and what the table says of a block.
+use card_model::Link;
+use verdicts::Place;
+use verdicts::Verdict;
+use words::same;
+use words::word;
+ghost use mathlib.Core.Path.{_≡_};
+ghost use Prim.Native.Nat.{_-_, _≤_, _<_};
+ghost use lib.ListN.{length};
+ghost use Rattle.words.specs.Search.{lowest};
+ghost use Rattle.verdicts.specs.declared.Place.the-variants.{Block};
+ghost use Rattle.verdicts.specs.Rows.{rowOver, unlessRefused};
+ghost use Rattle.card_model.specs.Layout.{rootOf, tableOf};
+ghost use Rattle.card_model.specs.Table.{magicRow, fieldsRow, rightFields, fatEntry, linkOf, linkAt, systemEntry, freeOrDamaged, isBad};
+ghost use Rattle.card_model.specs.Calls.{lengthRow, tableRows};
+ghost use Rattle.card_table.specs.Regions.{wrongIn, Ready};
+
+pub const LENGTH: usize = 131072;
+
+const ROOT: usize = 130560;
+
+const TABLE: usize = 130048;
+
+// The blocks that a row of the table of numbers is about: 241 to 255, 200 to 240, 0 to 199.
+pub(crate) enum Region {
+    System,
+    Hidden,
+    User,
+}
+
+// The table's entry of a block.
+pub fn fat_entry(card: &[u8], b: usize) -> usize
+    requires { ⌜ (length (now card) ≡ 131072) × (b < 256) ⌝ }
+    ensures { λ r. ⌜ (r ≡ fatEntry (tableOf (now (card .entry))) b) × (r < 65536) ⌝ }
+{
+    word(card, TABLE + 2 * b)
+}
+
+fn classify(e: usize) -> Link
+    ensures { λ r. ⌜ r ≡ linkOf e ⌝ }
+{
+    match e {
+        0xFFFC => Link::Free,
+        0xFFFF => Link::Damaged,
+        0xFFFA => Link::Last,
+        0..=199 => Link::Next(e),
+        _ => Link::Bad,
+    }
+}
+
+// What the table says of a block.
+pub fn link_at(card: &[u8], b: usize) -> Link
+    requires { ⌜ (length (now card) ≡ 131072) × (b < 256) ⌝ }
+    ensures { λ r. ⌜ r ≡ linkAt (tableOf (now (card .entry))) b ⌝ }
+{
+    classify(fat_entry(card, b))
+}
+
+pub fn free_or_damaged(link: Link) -> bool
+    ensures { λ r. ⌜ r ≡ freeOrDamaged link ⌝ }
+{
+    match link {
+        Link::Free => true,
+        Link::Damaged => true,
+        Link::Last => false,
+        Link::Next(_) => false,
+        Link::Bad => false,
+    }
+}
+
+fn is_bad(link: Link) -> bool
+    ensures { λ r. ⌜ r ≡ isBad link ⌝ }
+{
+    match link {
+        Link::Free => false,
+        Link::Damaged => false,
+        Link::Last => false,
+        Link::Next(_) => false,
+        Link::Bad => true,
+    }
+}
+
+// What the table has to say of a system block.
+fn system_entry(b: usize) -> usize
+    requires { ⌜ 1 ≤ b ⌝ }
+    ensures { λ r. ⌜ r ≡ systemEntry b ⌝ }
+{
+    if (b == 255) | ((b == 254) | (b == 241)) {
+        return 0xFFFA;
+    }
+    b - 1
+}
+
+fn is_wrong(card: &[u8], region: Region, b: usize) -> bool
+    requires { ⌜ (length (now card) ≡ 131072) × (b < 256) ⌝ }
+    requires { ⌜ Ready region b ⌝ }
+    ensures { λ r. ⌜ r ≡ wrongIn region (tableOf (now (card .entry))) b ⌝ }
+{
+    match region {
+        Region::System => fat_entry(card, b) != system_entry(b),
+        Region::Hidden => !free_or_damaged(link_at(card, b)),
+        Region::User => is_bad(link_at(card, b)),
+    }
+}
+
+// The refusal of this number at the first wrong block of a range.
+fn row(card: &[u8], region: Region, number: u8, from: usize, to: usize) -> Verdict
+    requires { ⌜ (length (now card) ≡ 131072) × (to ≤ 256) ⌝ }
+    requires { ⌜ Ready region from ⌝ }
+    ensures { λ r. ⌜ r ≡ rowOver number Block (lowest (wrongIn region (tableOf (now (card .entry)))) from (to - from)) ⌝ }
+{
+    let mut b = from;
+    while b < to {
+        if is_wrong(card, region, b) {
+            return Verdict {
+                number,
+                place: Place::Block(b),
+            };
+        }
+        b += 1;
+    }
+    Verdict {
+        number: 0,
+        place: Place::Whole,
+    }
+}
+
+fn right_fields(root: &[u8]) -> bool
+    requires { ⌜ length (now root) ≡ 512 ⌝ }
+    ensures { λ r. ⌜ r ≡ rightFields (now (root .entry)) ⌝ }
+{
+    (word(root, 0x46) == 254)
+        & (word(root, 0x48) == 1)
+        & (word(root, 0x4a) == 253)
+        & (word(root, 0x4c) == 13)
+        & (word(root, 0x50) == 200)
+}
+
+// Refusals 21 and 22.
+fn root_verdict(root: &[u8]) -> Verdict
+    requires { ⌜ length (now root) ≡ 512 ⌝ }
+    ensures { λ r. ⌜ r ≡ unlessRefused (magicRow (now (root .entry))) (fieldsRow (now (root .entry))) ⌝ }
+{
+    if !same(&root[0..16], &[0x55u8; 16]) {
+        return Verdict {
+            number: 21,
+            place: Place::Block(255),
+        };
+    }
+    if !right_fields(root) {
+        return Verdict {
+            number: 22,
+            place: Place::Block(255),
+        };
+    }
+    Verdict {
+        number: 0,
+        place: Place::Whole,
+    }
+}
+
+// Refusals 20 to 25.
+pub fn table_verdict(card: &[u8]) -> Verdict
+    ensures { λ r. ⌜ r ≡ unlessRefused (lengthRow (now (card .entry))) (tableRows (rootOf (now (card .entry))) (tableOf (now (card .entry)))) ⌝ }
+{
+    if card.len() != LENGTH {
+        return Verdict {
+            number: 20,
+            place: Place::Whole,
+        };
+    }
+    let root = root_verdict(&card[ROOT..LENGTH]);
+    if root.number != 0 {
+        return root;
+    }
+    let system = row(card, Region::System, 23, 241, 256);
+    if system.number != 0 {
+        return system;
+    }
+    let hidden = row(card, Region::Hidden, 24, 200, 241);
+    if hidden.number != 0 {
+        return hidden;
+    }
+    row(card, Region::User, 25, 0, 200)
+}
