@@ -1,0 +1,75 @@
+-- `first_used` meets its contract: what is found from here on is what is found from the start. Assumes nothing.
+use Prim.Native.Nat.{ℕ, _-_}
+use mathlib.Core.Bool.{Bool}
+use mathlib.Core.Path.{_≡_, refl, sym, ap, _∙_}
+use native.Mathlib.Omega.{arith}
+use Rattle.words.proofs.LoopLaws.{lowest-here, lowest-next, lowest-end}
+use Rattle.card_model.specs.Layout.{directoryOf}
+use Rattle.card_model.specs.Entries.{isUsed, entryAt}
+use Rattle.card_model.specs.Calls.{firstUsed}
+use Rattle.card_directory.specs.Found.{asFound}
+use borrow.Author.Needs.{needs}
+use Rattle.card_directory.proofs.search.first_used.Statement.{statement}
+use Rattle.card_directory.proofs.search.first_used.Tie as tie
+
+abbrev Inv-loop : tie.InvT-loop
+Inv-loop card start i₀ i = firstUsed (directoryOf card) start ≡ firstUsed (directoryOf card) i
+
+abbrev μ-loop : tie.MeasureT-loop
+μ-loop card start i₀ i = 208 - i
+
+loop-holds : tie.Need-loop-holds Inv-loop μ-loop
+loop-holds c = refl
+
+entry-at-requires : tie.Need-entry-at-requires Inv-loop μ-loop
+entry-at-requires c κs = search needs
+
+is-used-requires : tie.Need-is-used-requires Inv-loop μ-loop
+is-used-requires c κs = search needs
+
+returns : tie.Need-returns Inv-loop μ-loop
+unfolding firstUsed
+returns c =
+    let l = c .before .before .before .before in
+    let a = l .before .before .args in
+    let p : ℕ → Bool = λ j. isUsed (entryAt (directoryOf (a .card .now)) j) in
+    let e = sym (ap isUsed (c .before .before .entry-at .ensures .0)) ∙ sym (c .before .is-used .ensures) ∙ c .if1 .taken in
+    ap asFound (sym (l .loop .inv ∙ lowest-here p (l .loop .i) 208 (omega arith) e))
+
+add-i : tie.Need-add-i Inv-loop μ-loop
+add-i c = search needs
+
+loop-less : tie.Need-loop-less Inv-loop μ-loop
+loop-less c = search needs
+
+loop-again : tie.Need-loop-again Inv-loop μ-loop
+unfolding firstUsed
+loop-again c =
+    let l = c .before .before .before .before in
+    let a = l .before .before .args in
+    let p : ℕ → Bool = λ j. isUsed (entryAt (directoryOf (a .card .now)) j) in
+    let e = sym (ap isUsed (c .before .before .entry-at .ensures .0)) ∙ sym (c .before .is-used .ensures) ∙ c .if1 .left in
+    l .loop .inv ∙ lowest-next p (l .loop .i) 208 (omega arith) e
+
+returns-2 : tie.Need-returns-2 Inv-loop μ-loop
+unfolding firstUsed
+returns-2 c =
+    let l = c .before in
+    let a = l .before .before .args in
+    let p : ℕ → Bool = λ j. isUsed (entryAt (directoryOf (a .card .now)) j) in
+    ap asFound (sym (l .loop .inv ∙ lowest-end p (l .loop .i) 208 (omega arith)))
+
+pub first-used-spec : {M : Type 1} → statement M
+first-used-spec =
+    tie.close
+    (tie.spec
+    Inv-loop
+    μ-loop
+    loop-holds
+    entry-at-requires
+    is-used-requires
+    returns
+    add-i
+    loop-less
+    loop-again
+    returns-2)

@@ -1,0 +1,76 @@
+-- `name_taken` meets its contract. Assumes nothing.
+use mathlib.Core.Path.{sym, _∙_}
+use borrow.Author.Tests.{not-true, not-false}
+use Rattle.card_model.specs.Layout.{directoryOf}
+use Rattle.card_model.specs.Entries.{nameOf}
+use Rattle.card_directory.proofs.DirectoryLaws.{found-some, found-none, unused-name, used-name}
+use borrow.Author.Needs.{needs}
+use Rattle.card_directory.proofs.search.name_taken.Statement.{statement}
+use Rattle.card_directory.proofs.search.name_taken.Tie as tie
+
+entry-at-requires : tie.Need-entry-at-requires
+entry-at-requires c κs = search needs
+
+is-used-requires : tie.Need-is-used-requires
+is-used-requires c κs = search needs
+
+returns : tie.Need-returns
+returns c =
+    let n = c .before .before .entry-at in
+    let a = c .before .before .before .before .args in
+    let u = sym (c .before .is-used .ensures) ∙ not-true _ (c .if1 .taken) in
+    sym (unused-name (directoryOf (a .card .now)) (a .i) (n .result .now) (n .ensures .0) u)
+
+sub-find-named : tie.Need-sub-find-named
+sub-find-named c = search needs
+
+part-find-named-start : tie.Need-part-find-named-start
+part-find-named-start c = search needs
+
+part-find-named-end : tie.Need-part-find-named-end
+part-find-named-end c = search needs
+
+find-named-requires : tie.Need-find-named-requires
+find-named-requires c κs = search needs
+
+enum-told : tie.Need-enum-told
+enum-told c = search needs
+
+enum-told-2 : tie.Need-enum-told-2
+enum-told-2 c = search needs
+
+returns-2 : tie.Need-returns-2
+unfolding nameOf
+returns-2 c =
+    let l = c .before .before .before .before in
+    let n = l .before .before .entry-at in
+    let a = l .before .before .before .before .args in
+    let u = sym (l .before .is-used .ensures) ∙ not-false _ (l .if1 .left) in
+    let o = found-some _ _ (sym (c .before .before .find-named .ensures) ∙ c .enum-told .given .1) in
+    sym (used-name (directoryOf (a .card .now)) (a .i) (n .result .now) (n .ensures .0) u _ o)
+
+returns-3 : tie.Need-returns-3
+unfolding nameOf
+returns-3 c =
+    let l = c .before .before .before .before in
+    let n = l .before .before .entry-at in
+    let a = l .before .before .before .before .args in
+    let u = sym (l .before .is-used .ensures) ∙ not-false _ (l .if1 .left) in
+    let o = found-none _ (sym (c .before .before .find-named .ensures) ∙ c .enum-told2 .given .1) in
+    sym (used-name (directoryOf (a .card .now)) (a .i) (n .result .now) (n .ensures .0) u _ o)
+
+pub name-taken-spec : {M : Type 1} → statement M
+name-taken-spec =
+    tie.close
+    (tie.spec
+    entry-at-requires
+    is-used-requires
+    returns
+    sub-find-named
+    part-find-named-start
+    part-find-named-end
+    find-named-requires
+    enum-told
+    enum-told-2
+    returns-2
+    returns-3)

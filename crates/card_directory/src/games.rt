@@ -1,0 +1,68 @@
+// The game rule, refusal 30.
+use crate::entry::entry_at;
+use crate::entry::first_block;
+use crate::entry::is_game;
+use crate::entry::size;
+use card_table::fat_entry;
+ghost use mathlib.Core.Path.{_≡_};
+ghost use mathlib.Core.Bool.{true, false};
+ghost use Prim.Native.Nat.{_≤_, _<_};
+ghost use lib.ListN.{length};
+ghost use Rattle.words.specs.Lists.{anyOf, isSome, numbersFrom};
+ghost use Rattle.card_model.specs.Layout.{tableOf, directoryOf};
+ghost use Rattle.card_model.specs.Entries as model;
+ghost use Rattle.card_model.specs.Files.{chain, orEmpty, rising, breaksGameRule};
+ghost use Rattle.card_directory.specs.Rules.{GoodChains};
+
+// Whether an entry before i is a game.
+fn game_before(card: &[u8], i: usize) -> bool
+    requires { ⌜ (length (now card) ≡ 131072) × (i ≤ 208) ⌝ }
+    ensures { λ r. ⌜ r ≡ anyOf (λ j. model.isGame (model.entryAt (directoryOf (now (card .entry))) j)) (numbersFrom 0 i) ⌝ }
+{
+    let mut j = 0;
+    while j < i {
+        if is_game(entry_at(card, j)) {
+            return true;
+        }
+        j += 1;
+    }
+    false
+}
+
+// Whether each block of the chain from block 0 is followed by the one above it.
+fn rises(card: &[u8], blocks: usize) -> bool
+    requires { ⌜ (length (now card) ≡ 131072) × (blocks ≤ 200) ⌝ }
+    requires { ⌜ isSome (chain (tableOf (now card)) blocks 0) ≡ true ⌝ }
+    ensures { λ r. ⌜ r ≡ rising (orEmpty (chain (tableOf (now (card .entry))) blocks 0)) ⌝ }
+{
+    let mut b = 0;
+    while b + 1 < blocks {
+        if fat_entry(card, b) != b + 1 {
+            return false;
+        }
+        b += 1;
+    }
+    true
+}
+
+pub(crate) fn breaks_game_rule(card: &[u8], i: usize) -> bool
+    requires { ⌜ (length (now card) ≡ 131072) × (i < 208) ⌝ }
+    requires { ⌜ GoodChains (tableOf (now card)) (directoryOf (now card)) ⌝ }
+    ensures { λ r. ⌜ r ≡ breaksGameRule (tableOf (now (card .entry))) (directoryOf (now (card .entry))) i ⌝ }
+{
+    let entry = entry_at(card, i);
+    if !is_game(entry) {
+        return false;
+    }
+    if game_before(card, i) {
+        return true;
+    }
+    if first_block(entry) != 0 {
+        return true;
+    }
+    let blocks = size(entry);
+    if !rises(card, blocks) {
+        return true;
+    }
+    128 < blocks
+}
