@@ -2,13 +2,14 @@
 use Prim.Native.Nat.{ℕ, suc, _+_, _-_, _≤_}
 use mathlib.Core.Path.{_≡_, refl, sym, ap, _∙_}
 use mathlib.Core.Bool.{Bool, true, false}
-use mathlib.Core.List.{List, _++_, append-nil}
+use mathlib.Core.List.{List, _++_}
 use mathlib.Core.Option.{Option, none, some, Option·map}
 use native.Mathlib.Omega.{arith}
-use lib.ListN.{length, getD, take, drop, length-take, length-drop, drop-of-length-le}
-use lib.Seq.{take-at, take-take, take-all}
+use lib.ListN.{length, getD, take, drop, length-take, length-drop}
+use lib.Seq.{take-at, take-take}
 use borrow.Author.Tests.{ne-eqb}
 use Rattle.words.proofs.ListLaws.{take-drop}
+use Rattle.words.proofs.PartsLaws.{copied-over}
 use Rattle.flash_model.specs.Measures.{capacity, legalNumber}
 use Rattle.flash_model.specs.UserBlock.{payload}
 use Rattle.flash_model.specs.Partition.{blockAt, version, contents, holder, live, used}
@@ -104,8 +105,5 @@ module _ (image : List ℕ) (size count : ℕ) (u : Usable image size count) (n 
       pub read-0 : (k : ℕ) → asFound (holder image n) ≡ At k → (src : List ℕ) → src ≡ payload (blockAt image k) → length src ≡ 60
           → (left : List ℕ) → left ≡ take (length src) src ++ drop (length src) buffer → ReadAs 0 left
       read-0 k f src e s left h =
-          let t : length src ≤ 60 = omega arith in
-          let d : length buffer ≤ 60 = omega arith in
-          let w : take (length src) src ++ drop (length src) buffer ≡ src = rw (s, take-all 60 src t, drop-of-length-le buffer d) (append-nil src) in
-          let a : left ≡ payload (blockAt image k) = h ∙ w ∙ e in
+          let a : left ≡ payload (blockAt image k) = h ∙ copied-over src buffer (s ∙ sym l) ∙ e in
           record { code-is = done _ (contents-at image n k f) .code-is; buffer-is = a ∙ done _ (contents-at image n k f) .buffer-is }

@@ -1,11 +1,11 @@
 -- Laws of a list that is made of parts of one width, as of two-byte numbers, and of what is read at each number of a range.
 -- Assumes nothing.
-use Prim.Native.Nat.{ℕ, zero, suc, _+_, _*_, _<_}
+use Prim.Native.Nat.{ℕ, zero, suc, _+_, _*_, _≤_, _<_}
 use mathlib.Core.Path.{_≡_, refl, sym, ap, _∙_}
-use mathlib.Core.List.{List, [], _∷_, _++_, map, append-assoc}
+use mathlib.Core.List.{List, [], _∷_, _++_, map, append-assoc, append-nil}
 use native.Mathlib.Omega.{arith}
-use lib.ListN.{length, getD, take, drop, length-map}
-use lib.Seq.{take-at, drop-append-add, getD-append-add, ext-getD}
+use lib.ListN.{length, getD, take, drop, length-map, drop-of-length-le}
+use lib.Seq.{take-at, take-length, drop-append-add, getD-append-add, ext-getD}
 use Rattle.words.specs.Lists.{concat, numbersFrom}
 use Rattle.words.specs.Words.{word, wordBytes}
 use Rattle.words.proofs.ListLaws.{All, all-map, concat-length, range-at}
@@ -22,6 +22,13 @@ module _ {A : Type 0} where
       let e : suc i * w ≡ length p + i * w = omega (arith, a .0) in
       ap (λ (j : ℕ). take w (drop j ((p ++ concat parts) ++ rest))) e
       ∙ rw (append-assoc p (concat parts) rest, drop-append-add p (concat parts ++ rest) (i * w)) (part-at w parts rest d i (a .1) (omega arith))
+
+module _ {A : Type 0} where
+  -- a list that another of its length is copied over
+  pub copied-over : (src dst : List A) → length src ≡ length dst → take (length src) src ++ drop (length src) dst ≡ src
+  copied-over src dst e =
+      let d : length dst ≤ length src = omega arith in
+      rw (take-length src, drop-of-length-le dst d) (append-nil src)
 
 pub numbers-length : (k n : ℕ) → length (numbersFrom k n) ≡ n
 numbers-length k zero = refl

@@ -272,3 +272,18 @@ kept-in q k a (suc n) b c e = go (λ h. kept-in q k (suc a) n h (omega arith) e)
     go ih (yes d) false p = absurd (false≢true (sym p ∙ ap q (sym d) ∙ e))
     go ih (no d) true p = rw (ne-eqb k a d) (ih (omega (arith, d)))
     go ih (no d) false p = ih (omega (arith, d))
+
+-- ---- the lowest of one number more
+
+pub lowest-snoc : (p : ℕ → Bool) (a n : ℕ) → lowest p a (suc n) ≡ else (lowest p a n) (cond (p (a + n)) (some (a + n)) none)
+lowest-snoc p a zero =
+    let e : a + 0 ≡ a = omega arith in
+    rw e
+lowest-snoc p a (suc n) =
+    let e : suc a + n ≡ a + suc n = omega arith in
+    ap (cond (p a) (some a)) (lowest-snoc p (suc a) n) ∙ rw e (go (p a))
+  where
+    go : (t : Bool) → cond t (some a) (else (lowest p (suc a) n) (cond (p (a + suc n)) (some (a + suc n)) none))
+        ≡ else (cond t (some a) (lowest p (suc a) n)) (cond (p (a + suc n)) (some (a + suc n)) none)
+    go true = refl
+    go false = refl

@@ -8,10 +8,11 @@ use mathlib.Core.Option.{Option, none, some}
 use lib.Dec.{eqb}
 
 module _ {A : Type 0} where
-  -- The elements that pass the test, in order. (The library's `filter` takes a decision and no test.)
+  -- The elements that pass the test, in order. (The library's `filter` takes a decision and no test.) `rest` has a name, since
+  -- in a sample antt would else compute it twice at each element.
   abbrev pub keep : (A → Bool) → List A → List A
   keep p [] = []
-  keep p (x ∷ xs) = cond (p x) (x ∷ keep p xs) (keep p xs)
+  keep p (x ∷ xs) = let rest : List A = keep p xs in cond (p x) (x ∷ rest) rest
 
   -- Some element passes the test.
   abbrev pub anyOf : (A → Bool) → List A → Bool
