@@ -1,18 +1,20 @@
 -- What listings and reads give on a card that passes the check: the used entries in order, each file under its name, and a
 -- file's blocks in order as its bytes. Assumes nothing.
 use Prim.Native.Nat.{ℕ, _*_, _-_, _≤_, _<_}
-use mathlib.Core.Path.{_≡_, sym, ap, _∙_}
-use mathlib.Core.Bool.{false}
+use mathlib.Core.Path.{_≡_, refl, sym, ap, _∙_}
+use mathlib.Core.Bool.{Bool, true, false, _&&_, or-true}
+use mathlib.Core.Logic.{_≢_, _⊎_, ⊎-elim}
 use mathlib.Core.List.{List, [], map, append-nil}
 use mathlib.Core.Option.{some}
 use native.Mathlib.Omega.{arith}
 use lib.ListN.{length, getD, take, drop, length-map, length-drop, List·getD-map}
 use lib.Seq.{length-take-le}
-use borrow.Author.Tests.{eq-eqb, lt-leb}
+use borrow.Author.Tests.{eq-eqb, ne-eqb, lt-leb, le-leb}
 use Rattle.words.specs.Lists.{concat, numbersFrom}
 use Rattle.words.proofs.ListLaws.{All, all-map, all-mono, map-same}
 use Rattle.words.proofs.SearchLaws.{lowest-is, lowest-nothing}
-use Rattle.words.proofs.WordLaws.{same-refl}
+use Rattle.words.specs.Words.{sameBytes}
+use Rattle.words.proofs.WordLaws.{same-refl, same-eq}
 use Rattle.words.proofs.PartsLaws.{part-at, numbers-read}
 use Rattle.words.proofs.JoinLaws.{none-range}
 use Rattle.verdicts.specs.declared.Place.the-variants.{Whole}
@@ -116,3 +118,39 @@ reads-file card s i buffer u l =
     let parts = blocks card s i u in
     ap concat (map-same (λ index. readBuffer card (nameOf (entryOn card i)) index buffer) (λ index. getD parts index (blockAt card 0)) 0 (size (entryOn card i))
     (λ index a b. read-is card s i u index buffer (omega arith) l) ∙ numbers-read parts (size (entryOn card i)) (blockAt card 0) (blocks-many card s i u))
+
+-- ---- refused reads
+
+module _ (card : List ℕ) (s : SoundCard card) where
+  pub refused-33 : (name : List ℕ) (index : ℕ) (buffer : List ℕ) → (length name ≢ 12) ⊎ (length buffer ≢ 512)
+      → readVerdict card name index buffer ≡ refusedAt 33 Whole
+  unfolding readVerdict readRows
+  refused-33 name index buffer h =
+      ⊎-elim (λ n. rw (s, ne-eqb (length name) 12 n)) (λ n. rw (s, ne-eqb (length buffer) 512 n, or-true)) h
+
+  pub refused-31 : (name : List ℕ) (index : ℕ) (buffer : List ℕ) → length name ≡ 12 → length buffer ≡ 512
+      → ((i : ℕ) → UsedEntry card i → nameOf (entryOn card i) ≢ name) → readVerdict card name index buffer ≡ refusedAt 31 Whole
+  unfolding readVerdict readRows named isNamed
+  refused-31 name index buffer n l h =
+      let e = lowest-nothing (λ i. isNamed name (entryOn card i)) 0 208 (λ i a b. other i (omega arith) (isUsed (entryOn card i)) refl) in
+      rw (s, eq-eqb (length name) 12 n, eq-eqb (length buffer) 512 l, e)
+    where
+      other : (i : ℕ) → i < 208 → (t : Bool) → isUsed (entryOn card i) ≡ t → (t && sameBytes (nameOf (entryOn card i)) name) ≡ false
+      other i b false u = refl
+      other i b true u = differ (sameBytes (nameOf (entryOn card i)) name) refl
+        where
+          differ : (t : Bool) → sameBytes (nameOf (entryOn card i)) name ≡ t → t ≡ false
+          differ false q = refl
+          differ true q = absurd (h i (record { in-directory = b; is-used = u }) (same-eq _ name q))
+
+  pub refused-32 : (i index : ℕ) (buffer : List ℕ) → UsedEntry card i → size (entryOn card i) ≤ index → length buffer ≡ 512
+      → readVerdict card (nameOf (entryOn card i)) index buffer ≡ refusedAt 32 Whole
+  unfolding readVerdict readRows
+  refused-32 i index buffer u h l =
+      let n = name-length card i (sound-rows card s .long) (u .in-directory) in
+      rw (s, found-by-name card s i u, eq-eqb (length (nameOf (entryOn card i))) 12 n, eq-eqb (length buffer) 512 l, le-leb _ index h)
+
+pub refused-unchanged : (card name : List ℕ) (index : ℕ) (buffer : List ℕ) → readVerdict card name index buffer .number ≢ 0
+    → readBuffer card name index buffer ≡ buffer
+unfolding readBuffer
+refused-unchanged card name index buffer n = rw (ne-eqb (readVerdict card name index buffer .number) 0 n)

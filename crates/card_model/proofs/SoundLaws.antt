@@ -24,7 +24,7 @@ use Rattle.card_model.specs.Theorems.{NoRowRefuses}
 
 -- ---- rows that accept
 
-unless-accepts : (v w : Verdict) → accepted (unlessRefused v w) ≡ true → (accepted v ≡ true) × (accepted w ≡ true)
+pub unless-accepts : (v w : Verdict) → accepted (unlessRefused v w) ≡ true → (accepted v ≡ true) × (accepted w ≡ true)
 unless-accepts v w e = go (accepted v) refl e
   where
     go : (t : Bool) → accepted v ≡ t → accepted (cond t w v) ≡ true → (t ≡ true) × (accepted w ≡ true)
@@ -34,7 +34,7 @@ unless-accepts v w e = go (accepted v) refl e
 unless-done : (v w : Verdict) → v ≡ done → w ≡ done → unlessRefused v w ≡ done
 unless-done v w e f = rw (e, f)
 
-at-accepts : (n : ℕ) (p : Place) (t : Bool) → eqb n 0 ≡ false → accepted (rowAt n p t) ≡ true → t ≡ false
+pub at-accepts : (n : ℕ) (p : Place) (t : Bool) → eqb n 0 ≡ false → accepted (rowAt n p t) ≡ true → t ≡ false
 at-accepts n p true h e = sym e ∙ h
 at-accepts n p false h e = refl
 
@@ -46,7 +46,7 @@ over-accepts n p q a k h e = go (lowest q a k) refl e
     go none r e = lowest-none q a k r
     go (some j) r e = absurd (false≢true (sym h ∙ e))
 
-below-accepts : (n : ℕ) (p : ℕ → Place) (q : ℕ → Bool) (k : ℕ) → eqb n 0 ≡ false → accepted (rowOver n p (lowest q 0 k)) ≡ true
+pub below-accepts : (n : ℕ) (p : ℕ → Place) (q : ℕ → Bool) (k : ℕ) → eqb n 0 ≡ false → accepted (rowOver n p (lowest q 0 k)) ≡ true
     → (i : ℕ) → i < k → q i ≡ false
 below-accepts n p q k h e i l = over-accepts n p q 0 k h e i (omega arith) (omega arith)
 
@@ -66,11 +66,11 @@ module _ (card : List ℕ) where
   abbrev directory : List (List ℕ)
   directory = directoryOf card
 
-  pub sound-rows : SoundCard card → NoRowRefuses card
+  pub accepted-rows : accepted (verdictOf card) ≡ true → NoRowRefuses card
   unfolding verdictOf tableRows directoryRows lengthRow magicRow fieldsRow systemRow hiddenRow userRow entryRow chainRow sharingRow nameRow gameRow
       wrongSystem wrongHidden wrongUser
-  sound-rows e =
-      let v20 = unless-accepts (lengthRow card) _ (ap accepted e) in
+  accepted-rows e =
+      let v20 = unless-accepts (lengthRow card) _ e in
       let v = unless-accepts (tableRows root table) _ (v20 .1) in
       let v21 = unless-accepts (magicRow root) _ (v .0) in
       let v22 = unless-accepts (fieldsRow root) _ (v21 .1) in
@@ -112,6 +112,12 @@ module _ (card : List ℕ) where
       let v : tableRows root table ≡ done = unless-done _ _ v21 (unless-done _ _ v22 (unless-done _ _ v23 (unless-done _ _ v24 v25))) in
       let w : directoryRows table directory ≡ done = unless-done _ _ v26 (unless-done _ _ v27 (unless-done _ _ v28 (unless-done _ _ v29 v30))) in
       unless-done _ _ v20 (unless-done _ _ v w)
+
+  pub sound-rows : SoundCard card → NoRowRefuses card
+  sound-rows e = accepted-rows (ap accepted e)
+
+  pub accepted-sound : verdictOf card .number ≡ 0 → SoundCard card
+  accepted-sound e = rows-sound (accepted-rows (eq-eqb (verdictOf card .number) 0 e))
 
 pub sound-exactly : (card : List ℕ) → SoundCard card ↔ NoRowRefuses card
 sound-exactly card = (sound-rows card, rows-sound card)

@@ -8,6 +8,7 @@ use Rattle.card_model.proofs.WitnessLaws as witnesses
 pub theorems : Theorems
 theorems = record {
   sound-exactly = sound.sound-exactly;
+  accepted-sound = sound.accepted-sound;
   sound-file = files.sound-file;
   files-apart = files.files-apart;
   at-most-200 = files.at-most-200;
@@ -19,6 +20,10 @@ theorems = record {
   found-by-name = reads.found-by-name;
   reads-block = reads.reads-block;
   reads-file = reads.reads-file;
+  refused-33 = reads.refused-33;
+  refused-31 = reads.refused-31;
+  refused-32 = reads.refused-32;
+  refused-unchanged = reads.refused-unchanged;
   empty-sound = witnesses.empty-sound;
   empty-unused = witnesses.empty-unused;
   files-sound = witnesses.files-sound;

@@ -5,7 +5,7 @@ use mathlib.Core.Path.{_≡_}
 use mathlib.Core.Bool.{Bool, true, false}
 use mathlib.Core.List.{List, [], _∷_, map}
 use mathlib.Core.Option.{some}
-use mathlib.Core.Logic.{_↔_, _≢_}
+use mathlib.Core.Logic.{_↔_, _≢_, _⊎_}
 use lib.ListN.{length, take, drop, replicate}
 use Rattle.words.specs.Lists.{keep, has, Distinct, concat, numbersFrom}
 use Rattle.verdicts.specs.declared.Place.the-variants.{Whole}
@@ -16,7 +16,7 @@ use Rattle.card_model.specs.Layout.{cardLength, blockAt, rootOf, tableOf
 use Rattle.card_model.specs.Table.{rightFields, fatEntry, linkAt, systemEntry, freeOrDamaged, isBad}
 use Rattle.card_model.specs.Entries.{nameOf, size, isUsed, isData, isGame, wrongEntry, entryAt, nameTaken}
 use Rattle.card_model.specs.Files.{badChain, fileOf, filesBefore, sharesBlock, breaksGameRule, orphans}
-use Rattle.card_model.specs.Calls.{listedEntry, notListed, listOf, named, readVerdict, readBuffer, SoundCard}
+use Rattle.card_model.specs.Calls.{verdictOf, listedEntry, notListed, listOf, named, readVerdict, readBuffer, SoundCard}
 use Rattle.card_model.specs.Examples.{emptyCard, filesCard}
 
 -- Every fact of rows 20 to 30.
@@ -82,6 +82,8 @@ fileBlocks card = length (filesBefore (tableOf card) (directoryOf card) 208)
 pub record Theorems : Type 0 where
   -- the check is passed exactly when no row refuses
   pub sound-exactly : (card : List ℕ) → SoundCard card ↔ NoRowRefuses card
+  -- number 0 names the whole card
+  pub accepted-sound : (card : List ℕ) → verdictOf card .number ≡ 0 → SoundCard card
   pub sound-file : (card : List ℕ) → SoundCard card → (i : ℕ) → UsedEntry card i → SoundFile card i
   -- "chains of different used entries share no block"
   pub files-apart : (card : List ℕ) → SoundCard card → (i j b : ℕ) → UsedEntry card i → UsedEntry card j → i ≢ j
@@ -109,6 +111,15 @@ pub record Theorems : Type 0 where
       × (readBuffer card (nameOf (entryOn card i)) index buffer ≡ take 512 (drop (index * 512) (fileBytes card i)))
   pub reads-file : (card : List ℕ) → SoundCard card → (i : ℕ) (buffer : List ℕ) → UsedEntry card i → length buffer ≡ 512
       → concat (map (λ index. readBuffer card (nameOf (entryOn card i)) index buffer) (numbersFrom 0 (size (entryOn card i)))) ≡ fileBytes card i
+  -- what a read from a sound card refuses, and that it fills the buffer only where it is done
+  pub refused-33 : (card : List ℕ) → SoundCard card → (name : List ℕ) (index : ℕ) (buffer : List ℕ) → (length name ≢ 12) ⊎ (length buffer ≢ 512)
+      → readVerdict card name index buffer ≡ refusedAt 33 Whole
+  pub refused-31 : (card : List ℕ) → SoundCard card → (name : List ℕ) (index : ℕ) (buffer : List ℕ) → length name ≡ 12 → length buffer ≡ 512
+      → ((i : ℕ) → UsedEntry card i → nameOf (entryOn card i) ≢ name) → readVerdict card name index buffer ≡ refusedAt 31 Whole
+  pub refused-32 : (card : List ℕ) → SoundCard card → (i index : ℕ) (buffer : List ℕ) → UsedEntry card i → size (entryOn card i) ≤ index → length buffer ≡ 512
+      → readVerdict card (nameOf (entryOn card i)) index buffer ≡ refusedAt 32 Whole
+  pub refused-unchanged : (card name : List ℕ) (index : ℕ) (buffer : List ℕ) → readVerdict card name index buffer .number ≢ 0
+      → readBuffer card name index buffer ≡ buffer
   -- not vacuous
   pub empty-sound : SoundCard emptyCard
   pub empty-unused : (i : ℕ) → i < 208 → isUsed (entryOn emptyCard i) ≡ false
