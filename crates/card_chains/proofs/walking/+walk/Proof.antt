@@ -1,0 +1,119 @@
+-- `walk` meets its contract, with the blocks left as its measure. Assumes nothing.
+use native.Mathlib.Omega.{arith}
+use Rattle.card_model.specs.Files.{chainStep}
+use Rattle.card_chains.specs.Marks.{isMarked}
+use Rattle.card_chains.proofs.WalkLaws.{step-below, chain-none, chain-step, walked-broken, walked-last, walked-next}
+use borrow.Author.Needs.{needs}
+use Prim.Native.Nat.{ℕ, _<_}
+use borrow.Fn.Kinds.{In}
+use borrow.Fn.PlainCycle.{Measures, is, falls, and}
+use Rattle.card_chains.proofs.walking.walk.Reads as walk
+use Rattle.card_chains.proofs.walking.walk.Kinds as walk-kinds
+use Rattle.card_chains.proofs.walking.+walk.Lts-walk as walk-lts
+use Rattle.card_chains.proofs.walking.ended.Reads as ended-reads
+use Rattle.card_table.proofs.link_at.Reads as link-at-reads
+use Rattle.card_chains.proofs.walking.+walk.{statement}
+use Rattle.card_chains.proofs.walking.+walk.Tie.{close}
+
+abbrev μ-walk : Measures 2 walk-kinds.ps ℕ
+μ-walk κs a = a .1 .1 .1 .0
+
+abbrev walk-at : ℕ → In 2 walk-kinds.ps
+walk-at t = and 2 walk-kinds.ps (is 2 walk-kinds.ps μ-walk t) walk.Pre
+
+abbrev walk-below : ℕ → In 2 walk-kinds.ps
+walk-below t = and 2 walk-kinds.ps (falls 2 walk-kinds.ps _<_ μ-walk t) walk.Pre
+
+abbrev calls : ℕ → walk-lts.Claims
+calls t = (link-at-reads.Asked, link-at-reads.Learnt, ended-reads.Asked, ended-reads.Learnt, walk-below t, walk.Post)
+
+module _ (t : ℕ) where
+  returns : walk-lts.Need-returns (calls t) (walk-at t) walk.Post
+  returns c = walked-broken _ _ _ (chain-none _ _ _ (c .if1 .taken))
+
+  element-copy-out-met : walk-lts.Need-element-copy-out-met (calls t) (walk-at t) walk.Post
+  element-copy-out-met c = search needs
+
+  element-write-marks : walk-lts.Need-element-write-marks (calls t) (walk-at t) walk.Post
+  element-write-marks c = search needs
+
+  link-at-requires : walk-lts.Need-link-at-requires (calls t) (walk-at t) walk.Post
+  link-at-requires c κs = search needs
+
+  enum-told : walk-lts.Need-enum-told (calls t) (walk-at t) walk.Post
+  enum-told c = search needs
+
+  ended-requires : walk-lts.Need-ended-requires (calls t) (walk-at t) walk.Post
+  ended-requires c κs = search needs
+
+  enum-known-n : walk-lts.Need-enum-known-n (calls t) (walk-at t) walk.Post
+  enum-known-n c = search needs
+
+  sub-walk : walk-lts.Need-sub-walk (calls t) (walk-at t) walk.Post
+  sub-walk c = search needs
+
+  walk-requires : walk-lts.Need-walk-requires (calls t) (walk-at t) walk.Post
+  walk-requires c κs =
+      let n = c .before .before in
+      (omega arith, (search needs, step-below _ _ _ (n .before .before .link-at .ensures) (n .n .given .1)))
+
+  enum-told-2 : walk-lts.Need-enum-told-2 (calls t) (walk-at t) walk.Post
+  enum-told-2 c = search needs
+
+  enum-told-3 : walk-lts.Need-enum-told-3 (calls t) (walk-at t) walk.Post
+  enum-told-3 c = search needs
+
+  enum-told-4 : walk-lts.Need-enum-told-4 (calls t) (walk-at t) walk.Post
+  enum-told-4 c = search needs
+
+  returns-2 : walk-lts.Need-returns-2 (calls t) (walk-at t) walk.Post
+  unfolding chainStep isMarked
+  returns-2 c =
+      let l = c .before .before .before in
+      let some-left = l .before .before .if1 .left in
+      walked-last _ _ _ _ some-left (chain-step _ _ _ some-left (l .link-at .ensures) (c .before .enum-told .given .1)) (c .ended .ensures)
+
+  returns-3 : walk-lts.Need-returns-3 (calls t) (walk-at t) walk.Post
+  unfolding chainStep isMarked
+  returns-3 c =
+      let n = c .before .before .before in
+      let l = n .before .before in
+      walked-next _ _ _ _ (chain-step _ _ _ (l .before .before .if1 .left) (l .link-at .ensures) (n .n .given .1)) (c .walk .ensures)
+
+  returns-4 : walk-lts.Need-returns-4 (calls t) (walk-at t) walk.Post
+  unfolding chainStep
+  returns-4 c =
+      let l = c .before .before in
+      walked-broken _ _ _ (chain-step _ _ _ (l .before .before .if1 .left) (l .link-at .ensures) (c .enum-told2 .given .1))
+
+  returns-5 : walk-lts.Need-returns-5 (calls t) (walk-at t) walk.Post
+  unfolding chainStep
+  returns-5 c =
+      let l = c .before .before in
+      walked-broken _ _ _ (chain-step _ _ _ (l .before .before .if1 .left) (l .link-at .ensures) (c .enum-told3 .given .1))
+
+  returns-6 : walk-lts.Need-returns-6 (calls t) (walk-at t) walk.Post
+  unfolding chainStep
+  returns-6 c =
+      let l = c .before .before in
+      walked-broken _ _ _ (chain-step _ _ _ (l .before .before .if1 .left) (l .link-at .ensures) (c .enum-told4 .given .1))
+
+pub +walk-spec : {M : Type 1} → statement M
++walk-spec = close μ-walk λ t. walk-lts.spec (calls t) (walk-at t) walk.Post
+    (returns t)
+    (element-copy-out-met t)
+    (element-write-marks t)
+    (link-at-requires t)
+    (enum-told t)
+    (ended-requires t)
+    (enum-known-n t)
+    (sub-walk t)
+    (walk-requires t)
+    (enum-told-2 t)
+    (enum-told-3 t)
+    (enum-told-4 t)
+    (returns-2 t)
+    (returns-3 t)
+    (returns-4 t)
+    (returns-5 t)
+    (returns-6 t)

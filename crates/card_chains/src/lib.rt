@@ -1,0 +1,125 @@
+// The chains of a card's files: refusals 27 and 28, and the orphans. Each chain is walked once, tested and marked in the same
+// step.
+pub mod walking;
+
+use crate::walking::Found;
+use crate::walking::walk;
+use card_directory::entry::entry_at;
+use card_directory::entry::first_block;
+use card_directory::entry::is_used;
+use card_directory::entry::size;
+use card_table::free_or_damaged;
+use card_table::link_at;
+use verdicts::Place;
+use verdicts::Verdict;
+ghost use mathlib.Core.Path.{_≡_};
+ghost use mathlib.Core.Bool.{cond, false, true};
+ghost use Prim.Native.Nat.{ℕ, _≤_, _<_};
+ghost use lib.Dec.{ltb};
+ghost use lib.ListN.{length};
+ghost use Rattle.verdicts.specs.Rows.{accepted};
+ghost use Rattle.card_model.specs.Layout.{tableOf, directoryOf};
+ghost use Rattle.card_model.specs.Entries.{wrongEntry};
+ghost use Rattle.card_model.specs.Files.{isOrphan, orphans};
+ghost use Rattle.card_model.specs.Theorems.{entryOn};
+ghost use Rattle.card_chains.specs.Marks.{noMarks, fileMarks, chainRows, Walked, fileChain, isBroken, isShared};
+
+// The walk along the file of entry i.
+fn walk_file(card: &[u8], marks: &mut [u8; 200], i: usize) -> Found
+    requires { ⌜ (length (now card) ≡ 131072) × (i < 208) ⌝ }
+    requires { ⌜ wrongEntry (entryOn (now card) i) ≡ false ⌝ }
+    ensures { λ r. ⌜ Walked (fileChain (tableOf (now (card .entry))) (entryOn (now (card .entry)) i)) (now (marks .entry)) false r (now (marks .exit)) ⌝ }
+{
+    let entry = entry_at(card, i);
+    if !is_used(entry) {
+        return Found::Apart;
+    }
+    walk(card, marks, first_block(entry), size(entry), false)
+}
+
+fn is_broken(found: Found) -> bool
+    ensures { λ r. ⌜ r ≡ isBroken found ⌝ }
+{
+    match found {
+        Found::Broken => true,
+        Found::Shared => false,
+        Found::Apart => false,
+    }
+}
+
+// The first entry that shares a block, 208 for none: the one remembered, or else entry i.
+fn remember(first: usize, found: Found, i: usize) -> usize
+    ensures { λ r. ⌜ r ≡ cond (ltb first 208) first (cond (isShared found) i first) ⌝ }
+{
+    if first < 208 {
+        return first;
+    }
+    match found {
+        Found::Shared => i,
+        Found::Broken => first,
+        Found::Apart => first,
+    }
+}
+
+// Refusals 27 and 28. A bad chain anywhere comes before a shared block, so the first entry that shares one is remembered and
+// the pass goes on.
+pub fn walk_files(card: &[u8], marks: &mut [u8; 200]) -> Verdict
+    requires { ⌜ (length (now card) ≡ 131072) × (now marks ≡ noMarks) ⌝ }
+    requires { ⌜ ((i : ℕ) → i < 208 → wrongEntry (entryOn (now card) i) ≡ false) ⌝ }
+    ensures { λ r. ⌜ r ≡ chainRows (tableOf (now (card .entry))) (directoryOf (now (card .entry))) ⌝ }
+    ensures { λ r. ⌜ (accepted r ≡ true → now (marks .exit) ≡ fileMarks (tableOf (now (card .entry))) (directoryOf (now (card .entry))) 208) ⌝ }
+{
+    let mut first: usize = 208;
+    let mut i = 0;
+    while i < 208 {
+        let found = walk_file(card, marks, i);
+        if is_broken(found) {
+            return Verdict {
+                number: 27,
+                place: Place::Entry(i),
+            };
+        }
+        first = remember(first, found, i);
+        i += 1;
+    }
+    if first < 208 {
+        return Verdict {
+            number: 28,
+            place: Place::Entry(first),
+        };
+    }
+    Verdict {
+        number: 0,
+        place: Place::Whole,
+    }
+}
+
+// 1 for an orphan, else 0: a block that the table has in use and no file has marked.
+fn orphan_count(card: &[u8], marks: &[u8; 200], b: usize) -> usize
+    requires { ⌜ (length (now card) ≡ 131072) × (b < 200) ⌝ }
+    requires { ⌜ now marks ≡ fileMarks (tableOf (now card)) (directoryOf (now card)) 208 ⌝ }
+    ensures { λ r. ⌜ (r ≡ cond (isOrphan (tableOf (now (card .entry))) (directoryOf (now (card .entry))) b) 1 0) × (r ≤ 1) ⌝ }
+{
+    if free_or_damaged(link_at(card, b)) {
+        return 0;
+    }
+    if marks[b] != 0 {
+        return 0;
+    }
+    1
+}
+
+// How many user blocks are in use but in no file.
+pub fn count_orphans(card: &[u8], marks: &[u8; 200]) -> usize
+    requires { ⌜ length (now card) ≡ 131072 ⌝ }
+    requires { ⌜ now marks ≡ fileMarks (tableOf (now card)) (directoryOf (now card)) 208 ⌝ }
+    ensures { λ r. ⌜ r ≡ orphans (tableOf (now (card .entry))) (directoryOf (now (card .entry))) ⌝ }
+{
+    let mut count: usize = 0;
+    let mut b = 0;
+    while b < 200 {
+        count += orphan_count(card, marks, b);
+        b += 1;
+    }
+    count
+}
