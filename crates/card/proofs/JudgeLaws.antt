@@ -1,0 +1,98 @@
+-- The check row by row: what is found of each row, and what it tells once it is past. Assumes nothing.
+use Prim.Native.Nat.{ℕ, _<_}
+use mathlib.Core.Path.{_≡_, refl, sym, ap, _∙_}
+use mathlib.Core.Bool.{true, false}
+use mathlib.Core.List.{List}
+use borrow.Author.Tests.{eqb-true, eq-eqb, not-false}
+use lib.ListN.{length}
+use Rattle.verdicts.specs.declared.Place.the-variants.{Whole, Entry}
+use Rattle.verdicts.specs.declared.Verdict.{Verdict}
+use Rattle.verdicts.specs.Rows.{accepted, rowOver, unlessRefused}
+use Rattle.verdicts.proofs.RowLaws.{refused-first, not-refused, rows-joined}
+use Rattle.card_model.specs.Layout.{cardLength, rootOf, tableOf, directoryOf}
+use Rattle.card_model.specs.Entries.{wrongEntry, entryAt, entryRow, nameRow}
+use Rattle.card_model.specs.Files.{chainRow, sharingRow, gameRow}
+use Rattle.card_model.specs.Calls.{lengthRow, tableRows, directoryRows, verdictOf}
+use Rattle.card_model.proofs.SoundLaws.{unless-accepts, at-accepts, below-accepts}
+use Rattle.card_directory.specs.declared.Rule.the-variants.{Fields, Name, Game}
+use Rattle.card_directory.specs.Rules.{GoodChains, firstBroken}
+use Rattle.card_chains.specs.Marks.{chainRows}
+
+-- ---- rows 26, 29 and 30 as the directory's code gives them
+
+module _ (table : List ℕ) (directory : List (List ℕ)) where
+  pub fields-row : rowOver 26 Entry (firstBroken Fields table directory 0) ≡ entryRow directory
+  unfolding firstBroken entryRow
+  fields-row = refl
+
+  pub names-row : rowOver 29 Entry (firstBroken Name table directory 0) ≡ nameRow directory
+  unfolding firstBroken nameRow
+  names-row = refl
+
+  pub games-row : rowOver 30 Entry (firstBroken Game table directory 0) ≡ gameRow table directory
+  unfolding firstBroken gameRow
+  games-row = refl
+
+passed : (r v : Verdict) → r ≡ v → r .number ≡ 0 → accepted v ≡ true
+passed r v e z = ap accepted (sym e) ∙ eq-eqb (r .number) 0 z
+
+-- ---- t is what was found of rows 20 to 25
+
+module _ (card : List ℕ) (t : Verdict) (et : t ≡ unlessRefused (lengthRow card) (tableRows (rootOf card) (tableOf card))) where
+  abbrev table : List ℕ
+  table = tableOf card
+
+  abbrev directory : List (List ℕ)
+  directory = directoryOf card
+
+  pub table-refused : (t .number ≡ 0 → ⊥) → t ≡ verdictOf card
+  unfolding verdictOf
+  table-refused n = sym (sym (rows-joined (lengthRow card) (tableRows (rootOf card) table) _) ∙ refused-first _ _ t et n)
+
+  module _ (zt : t .number ≡ 0) where
+    pub long : length card ≡ 131072
+    unfolding lengthRow cardLength
+    long = eqb-true _ _ (not-false _ (at-accepts 20 Whole _ refl (unless-accepts (lengthRow card) _ (passed t _ et zt) .0)))
+
+    past-table : verdictOf card ≡ directoryRows table directory
+    unfolding verdictOf
+    past-table = sym (rows-joined (lengthRow card) (tableRows (rootOf card) table) _) ∙ not-refused _ _ t et zt
+
+    -- f is what was found of row 26
+    module _ (f : Verdict) (ef : f ≡ entryRow directory) where
+      pub fields-refused : (f .number ≡ 0 → ⊥) → f ≡ verdictOf card
+      unfolding directoryRows
+      fields-refused n = sym (past-table ∙ refused-first (entryRow directory) _ f ef n)
+
+      module _ (zf : f .number ≡ 0) where
+        pub fields-right : (i : ℕ) → i < 208 → wrongEntry (entryAt directory i) ≡ false
+        unfolding entryRow
+        fields-right = below-accepts 26 Entry _ 208 refl (passed f _ ef zf)
+
+        past-fields : verdictOf card ≡ unlessRefused (chainRows table directory) (unlessRefused (nameRow directory) (gameRow table directory))
+        unfolding directoryRows
+        past-fields = past-table ∙ not-refused (entryRow directory) _ f ef zf ∙ sym (rows-joined (chainRow table directory) (sharingRow table directory) _)
+
+        -- c is what was found of rows 27 and 28
+        module _ (c : Verdict) (ec : c ≡ chainRows table directory) where
+          pub chains-refused : (c .number ≡ 0 → ⊥) → c ≡ verdictOf card
+          chains-refused n = sym (past-fields ∙ refused-first _ _ c ec n)
+
+          module _ (zc : c .number ≡ 0) where
+            pub good-chains : GoodChains table directory
+            unfolding chainRow
+            good-chains = record {
+              fields = fields-right;
+              chains = below-accepts 27 Entry _ 208 refl (unless-accepts (chainRow table directory) _ (passed c _ ec zc) .0);
+            }
+
+            past-chains : verdictOf card ≡ unlessRefused (nameRow directory) (gameRow table directory)
+            past-chains = past-fields ∙ not-refused _ _ c ec zc
+
+            -- m is what was found of row 29
+            module _ (m : Verdict) (em : m ≡ nameRow directory) where
+              pub names-refused : (m .number ≡ 0 → ⊥) → m ≡ verdictOf card
+              names-refused n = sym (past-chains ∙ refused-first _ _ m em n)
+
+              pub names-passed : m .number ≡ 0 → gameRow table directory ≡ verdictOf card
+              names-passed zm = sym (past-chains ∙ not-refused _ _ m em zm)

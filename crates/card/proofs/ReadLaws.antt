@@ -1,0 +1,92 @@
+-- A read from a sound card: rows 33, 31 and 32, or the block. Assumes nothing.
+use Prim.Native.Nat.{ℕ, _+_, _-_, _*_, _≤_, _<_}
+use mathlib.Core.Path.{_≡_, refl, sym, ap, _∙_}
+use mathlib.Core.Bool.{true, false, cond, or-true}
+use mathlib.Core.List.{List, _++_}
+use mathlib.Core.Option.{none, some}
+use native.Mathlib.Omega.{arith}
+use native.Mathlib.Nat.{add-sub-cancel-left}
+use borrow.Author.Tests.{ne-eqb, le-leb, lt-leb}
+use lib.Dec.{eqb}
+use lib.ListN.{length, getD, take, drop, length-take, length-drop}
+use Rattle.words.proofs.Bools.{and-true-left}
+use Rattle.words.proofs.SearchLaws.{lowest-some}
+use Rattle.words.proofs.PartsLaws.{copied-over}
+use Rattle.verdicts.specs.declared.Place.the-variants.{Whole}
+use Rattle.verdicts.specs.declared.Verdict.{Verdict}
+use Rattle.verdicts.specs.Rows.{refusedAt, accepted}
+use Rattle.card_model.specs.Layout.{cardLength, blockAt, tableOf, directoryOf}
+use Rattle.card_model.specs.Entries.{firstBlock, size, isUsed, entryAt, isNamed}
+use Rattle.card_model.specs.Files.{chain, fileOf}
+use Rattle.card_model.specs.Calls.{named, readRows, fileBlock, blockRead}
+use Rattle.card_model.specs.Theorems.{NoRowRefuses}
+use Rattle.card_model.proofs.EntryLaws.{right-entry, file-chain}
+use Rattle.card_chains.specs.Marks.{IsAfter}
+
+-- an entry that a name found is in the directory
+pub named-below : (directory : List (List ℕ)) (name : List ℕ) (i : ℕ) → named directory name ≡ some i → i < 208
+unfolding named
+named-below directory name i e =
+    let l = lowest-some (λ j. isNamed name (entryAt directory j)) 0 208 i e in
+    omega (arith, l .high)
+
+-- the part of the card that is copied
+abbrev part : List ℕ → ℕ → List ℕ
+part card b = take (b * 512 + 512 - b * 512) (drop (b * 512) card)
+
+module _ (card : List ℕ) (rows : NoRowRefuses card) (name : List ℕ) (index : ℕ) (buffer : List ℕ) where
+  abbrev table : List ℕ
+  table = tableOf card
+
+  abbrev directory : List (List ℕ)
+  directory = directoryOf card
+
+  -- r is the verdict, and the buffer is left so
+  pub record ReadAs (r : Verdict) (left : List ℕ) : Type 0 where
+    pub verdict-is : r ≡ readRows directory name index buffer
+    pub buffer-is : left ≡ cond (accepted r) (blockRead card index (named directory name) buffer) buffer
+
+  refused : (n : ℕ) (r : Verdict) → eqb n 0 ≡ false → r ≡ refusedAt n Whole → refusedAt n Whole ≡ readRows directory name index buffer → ReadAs r buffer
+  refused n r z e q = record { verdict-is = e ∙ q; buffer-is = rw (e, z) }
+
+  pub wrong-name : (r : Verdict) → r ≡ refusedAt 33 Whole → (length name ≡ 12 → ⊥) → ReadAs r buffer
+  unfolding readRows
+  wrong-name r e n = refused 33 r refl e (rw (ne-eqb (length name) 12 n))
+
+  pub wrong-block : (r : Verdict) → r ≡ refusedAt 33 Whole → (length buffer ≡ 512 → ⊥) → ReadAs r buffer
+  unfolding readRows
+  wrong-block r e n = refused 33 r refl e (rw (ne-eqb (length buffer) 512 n, or-true))
+
+  module _ (n : length name ≡ 12) (l : length buffer ≡ 512) where
+    pub no-file : (r : Verdict) → r ≡ refusedAt 31 Whole → named directory name ≡ none → ReadAs r buffer
+    unfolding readRows
+    no-file r e q = refused 31 r refl e (rw (n, l, q))
+
+    -- s is the entry that was found
+    module _ (i : ℕ) (q : named directory name ≡ some i) (s : List ℕ) (es : s ≡ entryAt directory i) where
+      pub past-end : (r : Verdict) → r ≡ refusedAt 32 Whole → size s ≤ index → ReadAs r buffer
+      unfolding readRows
+      past-end r e h = refused 32 r refl e (rw (n, l, q, ← es, le-leb (size s) index h))
+
+      used : isUsed s ≡ true
+      unfolding named isNamed
+      used = rw es (and-true-left _ _ (lowest-some (λ j. isNamed name (entryAt directory j)) 0 208 i q .passes))
+
+      pub first-below : firstBlock s < 200
+      first-below = right-entry s used (rw es (rows .entries i (named-below directory name i q))) .0
+
+      chain-is : chain table (size s) (firstBlock s) ≡ some (fileOf table s)
+      chain-is = file-chain s used table (rw es (rows .chains i (named-below directory name i q)))
+
+      -- b is the block that the chain's steps lead to, and the buffer holds what was copied over it
+      pub in-file : (r : Verdict) → r ≡ refusedAt 0 Whole → index < size s → (b : ℕ) → IsAfter table (firstBlock s) index b → b < 200
+          → (left : List ℕ) → left ≡ take (length (part card b)) (part card b) ++ drop (length (part card b)) buffer → ReadAs r left
+      unfolding readRows fileBlock blockAt cardLength
+      in-file r e h b after low left w =
+          let f : length (take 512 (drop (b * 512) card)) ≡ 512 = simp (length-take, length-drop) (omega (arith, rows .long)) in
+          let p : part card b ≡ take 512 (drop (b * 512) card) = ap (λ (k : ℕ). take k (drop (b * 512) card)) (add-sub-cancel-left (b * 512) 512) in
+          let d : b ≡ getD (fileOf table s) index 0 = after (size s) (fileOf table s) chain-is h in
+          record {
+            verdict-is = e ∙ rw (n, l, q, ← es, lt-leb (size s) index h);
+            buffer-is = w ∙ rw (e, q, p, ← es, ← d) (copied-over (take 512 (drop (b * 512) card)) buffer (f ∙ sym l));
+          }

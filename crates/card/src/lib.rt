@@ -1,0 +1,171 @@
+// Memory cards of 128 KiB: check, list and read, on a card lent by the caller.
+//
+// Every call begins with the check and answers its verdict: number 0 when it is done, else the refusal's number and place, and
+// then nothing has changed. No call asks anything of what it is lent.
+use card_chains::count_orphans;
+use card_chains::walk_files;
+use card_chains::walking::block_after;
+use card_directory::Rule;
+use card_directory::entry;
+use card_directory::row;
+use card_directory::search::FoundEntry;
+use card_directory::search::find_named;
+use card_directory::search::first_used;
+use card_model::Checked;
+use card_model::Listing;
+use card_table::table_verdict;
+use verdicts::Place;
+use verdicts::Verdict;
+ghost use mathlib.Core.Path.{_≡_};
+ghost use mathlib.Core.Bool.{true, cond};
+ghost use lib.ListN.{length};
+ghost use Rattle.verdicts.specs.declared.Place.the-variants.{Whole};
+ghost use Rattle.verdicts.specs.Rows.{refusedAt, accepted};
+ghost use Rattle.card_model.specs.Layout.{tableOf, directoryOf};
+ghost use Rattle.card_model.specs.Calls.{verdictOf, checkOf, notListed, listedEntry, listOf, named, readRows, readVerdict, blockRead, readBuffer};
+ghost use Rattle.card_model.specs.Theorems.{NoRowRefuses};
+ghost use Rattle.card_chains.specs.Marks.{noMarks, fileMarks};
+
+// Refusals 20 to 30; the blocks of all files are marked where none applies.
+fn judge(card: &[u8], marks: &mut [u8; 200]) -> Verdict
+    requires { ⌜ now marks ≡ noMarks ⌝ }
+    ensures { λ r. ⌜ r ≡ verdictOf (now (card .entry)) ⌝ }
+    ensures { λ r. ⌜ (accepted r ≡ true → now (marks .exit) ≡ fileMarks (tableOf (now (card .entry))) (directoryOf (now (card .entry))) 208) ⌝ }
+{
+    let table = table_verdict(card);
+    if table.number != 0 {
+        return table;
+    }
+    let fields = row(card, Rule::Fields, 26);
+    if fields.number != 0 {
+        return fields;
+    }
+    let chains = walk_files(card, marks);
+    if chains.number != 0 {
+        return chains;
+    }
+    let names = row(card, Rule::Name, 29);
+    if names.number != 0 {
+        return names;
+    }
+    row(card, Rule::Game, 30)
+}
+
+// Whether the card is sound, and then how many orphans it has.
+pub fn check(card: &[u8]) -> Checked
+    ensures { λ r. ⌜ r ≡ checkOf (now (card .entry)) ⌝ }
+{
+    let mut marks = [0u8; 200];
+    let verdict = judge(card, &mut marks);
+    if verdict.number != 0 {
+        return Checked {
+            verdict,
+            orphans: 0,
+        };
+    }
+    Checked {
+        verdict,
+        orphans: count_orphans(card, &marks),
+    }
+}
+
+// This number, with the whole card for its place.
+fn whole(number: u8) -> Verdict
+    ensures { λ r. ⌜ r ≡ refusedAt number Whole ⌝ }
+{
+    Verdict {
+        number,
+        place: Place::Whole,
+    }
+}
+
+fn not_listed(verdict: Verdict) -> Listing
+    ensures { λ r. ⌜ r ≡ notListed verdict ⌝ }
+{
+    Listing {
+        verdict,
+        entry: 0,
+        kind: 0,
+        flag: 0,
+        first: 0,
+        size: 0,
+        offset: 0,
+        name: [0u8; 12],
+        time: [0u8; 8],
+    }
+}
+
+// Entry i, from its own bytes.
+fn listed(i: usize, bytes: &[u8]) -> Listing
+    requires { ⌜ length (now bytes) ≡ 32 ⌝ }
+    ensures { λ r. ⌜ r ≡ listedEntry i (now (bytes .entry)) ⌝ }
+{
+    let mut name = [0u8; 12];
+    bytes::copy(&bytes[4..16], &mut name);
+    let mut time = [0u8; 8];
+    bytes::copy(&bytes[16..24], &mut time);
+    Listing {
+        verdict: whole(0),
+        entry: i,
+        kind: bytes[0],
+        flag: bytes[1],
+        first: entry::first_block(bytes),
+        size: entry::size(bytes),
+        offset: entry::header_offset(bytes),
+        name,
+        time,
+    }
+}
+
+// The first used entry from `start` on.
+pub fn list(card: &[u8], start: usize) -> Listing
+    ensures { λ r. ⌜ r ≡ listOf (now (card .entry)) start ⌝ }
+{
+    let mut marks = [0u8; 200];
+    let verdict = judge(card, &mut marks);
+    if verdict.number != 0 {
+        return not_listed(verdict);
+    }
+    let FoundEntry::At(i) = first_used(card, start) else {
+        return not_listed(whole(31));
+    };
+    listed(i, entry::entry_at(card, i))
+}
+
+// Refusals 33, 31 and 32 of a read from a sound card, or the block.
+fn read_file(card: &[u8], name: &[u8], index: usize, block: &mut [u8]) -> Verdict
+    requires { ⌜ NoRowRefuses (now card) ⌝ }
+    ensures { λ r. ⌜ r ≡ readRows (directoryOf (now (card .entry))) (now (name .entry)) index (now (block .entry)) ⌝ }
+    ensures { λ r. ⌜ now (block .exit) ≡ cond (accepted r) (blockRead (now (card .entry)) index (named (directoryOf (now (card .entry))) (now (name .entry))) (now (block .entry))) (now (block .entry)) ⌝ }
+{
+    if name.len() != 12 {
+        return whole(33);
+    }
+    if block.len() != 512 {
+        return whole(33);
+    }
+    let FoundEntry::At(i) = find_named(card, name, 208) else {
+        return whole(31);
+    };
+    let bytes = entry::entry_at(card, i);
+    if entry::size(bytes) <= index {
+        return whole(32);
+    }
+    let at = block_after(card, entry::first_block(bytes), index) * 512;
+    let end = at + 512;
+    bytes::copy(&card[at..end], block);
+    whole(0)
+}
+
+// Reads a block of the file of this name.
+pub fn read(card: &[u8], name: &[u8], index: usize, block: &mut [u8]) -> Verdict
+    ensures { λ r. ⌜ r ≡ readVerdict (now (card .entry)) (now (name .entry)) index (now (block .entry)) ⌝ }
+    ensures { λ _. ⌜ now (block .exit) ≡ readBuffer (now (card .entry)) (now (name .entry)) index (now (block .entry)) ⌝ }
+{
+    let mut marks = [0u8; 200];
+    let verdict = judge(card, &mut marks);
+    if verdict.number != 0 {
+        return verdict;
+    }
+    read_file(card, name, index, block)
+}
