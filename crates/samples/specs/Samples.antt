@@ -1,9 +1,8 @@
--- Document 01, "Samples from the bench", (a) to (i); (j) to (l) come with the card. What a definition gives, and what the bench has, in one table, and one theorem over
--- all of it, which antt computes.
+-- Document 01, "Samples from the bench": the rows of the flash, (a) to (i), and with those of the card, (j) to (l), the one
+-- table and the one theorem over all of it, which antt computes.
 -- Assumes nothing.
 use Prim.Native.Nat.{ℕ}
 use mathlib.Core.Path.{_≡_, refl}
-use mathlib.Core.Bool.{Bool, true, false}
 use mathlib.Core.List.{List, [], _∷_, _++_, map}
 use lib.ListN.{replicate, set}
 use Rattle.words.specs.Lists.{toList}
@@ -13,18 +12,21 @@ use Rattle.flash_model.specs.Measures.{sizes, legalSize, blocks, bitmapBlocks, 
 use Rattle.flash_model.specs.Bitmap.{bitByte, bitPlace, bitWeight, bitOf, allocatedIn, outOfSequence, lowestFreeIn, cleared, firstCleared}
 use Rattle.flash_model.specs.UserBlock.{number, payload, rightChecksum, newBlock}
 use Rattle.flash_model.specs.Partition.{magic, headerNumber, version, bitmapOf, refusal}
-
-pub record Sample : Type 0 where
-  pub defined : List ℕ
-  pub bench : List ℕ
-
-abbrev pub sampleOf : List ℕ → List ℕ → Sample
-sampleOf d b = record { defined = d; bench = b }
-
--- 1 for yes.
-abbrev pub bit : Bool → ℕ
-bit true = 1
-bit false = 0
+use Rattle.card_model.specs.Layout.{cardLength, rootOf, fatPlace, tableOf, entryBlock, entryByte, entryPlace, directoryOf}
+use Rattle.card_model.specs.Table.{magicRow, rightFields, fieldsRow, fatEntry, linkOf, linkAt, systemEntry, wrongSystem}
+use Rattle.card_model.specs.Table.{wrongHidden, wrongUser, systemRow, hiddenRow, userRow}
+use Rattle.card_model.specs.Entries.{kind, flag, firstBlock, nameOf, timeOf, size, headerOffset, isUsed, isData, isGame}
+use Rattle.card_model.specs.Entries.{wrongKind, wrongFlag, wrongFirst, wrongSize, wrongOffset, wrongEntry, entryAt, entryRow}
+use Rattle.card_model.specs.Entries.{isNamed, nameTaken, nameRow}
+use Rattle.card_model.specs.Files.{chainStep, chain, chainOf, badChain, chainRow, fileOf, filesBefore, sharesBlock}
+use Rattle.card_model.specs.Files.{sharingRow, breaksGameRule, gameRow, isOrphan, orphans}
+use Rattle.card_model.specs.Calls.{lengthRow, tableRows, directoryRows, verdictOf, checkOf, listedEntry, firstUsed, listOf}
+use Rattle.card_model.specs.Calls.{named, readRows, readVerdict, readBuffer}
+use Rattle.card_model.specs.Examples.{rootBlock, systemTable, entryBytes}
+use Rattle.samples.specs.Sample.{Sample, sampleOf, bit}
+use Rattle.samples.specs.CardSamples.{emptyTable, linked, twoBlocks, threeBlocks, orphanTable, layoutSamples}
+use Rattle.samples.specs.CardSamples.{rootSamples, tableSamples, entrySamples, chainSamples, directorySamples}
+use Rattle.samples.specs.CardSamples.{orphanSamples, listSamples, readSamples, lengthSamples, cardSamples}
 
 -- A row of the table of measures: a legal length, its blocks, bitmap blocks, M, capacity and top logical number.
 abbrev pub measures : ℕ → List ℕ
@@ -47,8 +49,8 @@ page292 =
 unfoldable pub block292 : List ℕ
 block292 = 36 ∷ 1 ∷ page292 ++ 196 ∷ 71 ∷ []
 
-unfoldable pub samples : List Sample
-samples =
+unfoldable pub flashSamples : List Sample
+flashSamples =
     -- (a) (b) (c)
     sampleOf (checksumOf [] ∷ []) (0x0000 ∷ [])
     ∷ sampleOf (checksumOf (0xFF ∷ []) ∷ []) (0x00FF ∷ [])
@@ -69,6 +71,19 @@ samples =
     ∷ sampleOf (map (λ i. bit (rightChecksum (set block292 i 0))) (0 ∷ 1 ∷ 2 ∷ 61 ∷ 62 ∷ 63 ∷ [])) (0 ∷ 0 ∷ 0 ∷ 0 ∷ 0 ∷ 0 ∷ [])
     ∷ []
 
+unfoldable pub samples : List Sample
+samples = flashSamples ++ cardSamples
+
 pub samples-hold : map (λ (s : Sample). s .defined) samples ≡ map (λ (s : Sample). s .bench) samples
-unfolding samples unwritten page292 block292 checksumOf crcFrom takes shifts shift sizes legalSize blocks bitmapBlocks firstBitmap capacity topNumber bitByte bitPlace bitWeight bitOf allocatedIn outOfSequence lowestFreeIn cleared firstCleared number payload rightChecksum newBlock word wordBytes magic headerNumber version bitmapOf refusal
+unfolding samples flashSamples unwritten page292 block292 checksumOf crcFrom takes shifts shift sizes legalSize blocks
+    bitmapBlocks firstBitmap capacity topNumber bitByte bitPlace bitWeight bitOf allocatedIn outOfSequence lowestFreeIn
+    cleared firstCleared number payload rightChecksum newBlock word wordBytes magic headerNumber version bitmapOf refusal
+    cardLength rootOf fatPlace tableOf entryBlock entryByte entryPlace directoryOf magicRow rightFields fieldsRow fatEntry
+    linkOf linkAt systemEntry wrongSystem wrongHidden wrongUser systemRow hiddenRow userRow kind flag firstBlock nameOf
+    timeOf size headerOffset isUsed isData isGame wrongKind wrongFlag wrongFirst wrongSize wrongOffset wrongEntry entryAt
+    entryRow isNamed nameTaken nameRow chainStep chain chainOf badChain chainRow fileOf filesBefore sharesBlock sharingRow
+    breaksGameRule gameRow isOrphan orphans lengthRow tableRows directoryRows verdictOf checkOf listedEntry firstUsed listOf
+    named readRows readVerdict readBuffer rootBlock systemTable entryBytes emptyTable linked twoBlocks threeBlocks
+    orphanTable layoutSamples rootSamples tableSamples entrySamples chainSamples directorySamples orphanSamples listSamples
+    readSamples lengthSamples cardSamples
 samples-hold = refl
