@@ -1,37 +1,59 @@
--- Laws of chains: a chain that is there has its length, goes through user blocks that aren't free or damaged, and repeats none.
+-- Laws of chains: what a chain is, without the walk; a chain that is there has its length, goes through user blocks that aren't free
+-- or damaged, and repeats none.
 -- Assumes nothing.
-use Prim.Native.Nat.{ℕ, zero, suc, _≤_, _<_}
-use mathlib.Core.Path.{_≡_, refl, ap, subst}
+use Prim.Native.Nat.{ℕ, zero, suc, _+_, _-_, _≤_, _<_}
+use mathlib.Core.Path.{_≡_, refl, sym, ap, subst, _∙_}
 use mathlib.Core.Bool.{Bool, true, false, cond, _||_, false≢true}
 use mathlib.Core.List.{List, [], _∷_}
 use mathlib.Core.Option.{Option, none, some, Option·map, Option·some-injective}
+use mathlib.Core.Logic.{_↔_}
 use native.Mathlib.Omega.{arith}
 use lib.Dec.{eqb, ltb}
-use lib.ListN.{length, drop}
-use borrow.Author.Tests.{ltb-true, eqb-true, ne-eqb}
+use lib.ListN.{length, getD, drop}
+use borrow.Author.Tests.{ltb-true, lt-ltb, eqb-true, ne-eqb}
 use Rattle.words.specs.Lists.{has, Distinct}
 use Rattle.words.proofs.ListLaws.{All}
 use Rattle.card_model.specs.declared.Link.{Link}
 use Rattle.card_model.specs.declared.Link.the-variants.{Free, Damaged, Last, Next, Bad}
-use Rattle.card_model.specs.Table.{linkOf, linkAt, freeOrDamaged}
+use Rattle.card_model.specs.Table.{fatEntry, linkOf, linkAt, freeOrDamaged}
 use Rattle.card_model.specs.Files.{chainStep, chain}
+use Rattle.card_model.specs.Theorems.{IsChain}
+
+-- ---- what a link tells of its entry
+
+abbrev Told : Link → ℕ → Type 0
+Told Free e = Unit {0}
+Told Damaged e = Unit {0}
+Told Last e = e ≡ 0xFFFA
+Told (Next n) e = (e ≡ n) × (n < 200)
+Told Bad e = Unit {0}
+
+told : (e : ℕ) → Told (linkOf e) e
+unfolding linkOf
+told e = go (eqb e 0xFFFC) (eqb e 0xFFFF) (eqb e 0xFFFA) (ltb e 200) refl refl
+  where
+    go : (a b c d : Bool) → eqb e 0xFFFA ≡ c → ltb e 200 ≡ d → Told (cond a Free (cond b Damaged (cond c Last (cond d (Next e) Bad)))) e
+    go true b c d f g = tt
+    go false true c d f g = tt
+    go false false true d f g = eqb-true e 0xFFFA f
+    go false false false true f g = (refl, ltb-true e 200 g)
+    go false false false false f g = tt
 
 -- a next block is the entry itself, and a user block
 pub next-is : (e n : ℕ) → linkOf e ≡ Next n → (e ≡ n) × (n < 200)
-unfolding linkOf
-next-is e n q = go (eqb e 0xFFFC) (eqb e 0xFFFF) (eqb e 0xFFFA) (ltb e 200) refl q
-  where
-    go : (a b c d : Bool) → ltb e 200 ≡ d → _≡_ {A = Link} (cond a Free (cond b Damaged (cond c Last (cond d (Next e) Bad)))) (Next n) → (e ≡ n) × (n < 200)
-    go true b c d f q = let z : _≡_ {A = ℕ} 0 1 = cc in absurd (omega arith)
-    go false true c d f q = let z : _≡_ {A = ℕ} 0 1 = cc in absurd (omega arith)
-    go false false true d f q = let z : _≡_ {A = ℕ} 0 1 = cc in absurd (omega arith)
-    go false false false false f q = let z : _≡_ {A = ℕ} 0 1 = cc in absurd (omega arith)
-    go false false false true f q =
-        let z : e ≡ n = cc in
-        (z, omega (arith, ltb-true e 200 f))
+next-is e n q = subst (λ (l : Link). Told l e) q (told e)
 
 pub next-below : (e n : ℕ) → linkOf e ≡ Next n → n < 200
 next-below e n q = next-is e n q .1
+
+next-of : (e n : ℕ) → e ≡ n → e < 200 → linkOf e ≡ Next n
+unfolding linkOf
+next-of e n q h =
+    let other : (k : ℕ) → 200 ≤ k → eqb e k ≡ false = λ k l. ne-eqb e k (λ d. omega arith) in
+    simp (other 0xFFFC (omega arith), other 0xFFFF (omega arith), other 0xFFFA (omega arith), lt-ltb e 200 h) (ap Next q)
+
+last-is : (e : ℕ) → linkOf e ≡ Last → e ≡ 0xFFFA
+last-is e q = subst (λ (l : Link). Told l e) q (told e)
 
 -- ---- a chain that is there, link by link
 
@@ -64,9 +86,74 @@ module _ (table : List ℕ) where
           next none r f = let z : _≡_ {A = ℕ} 0 1 = cc in absurd (omega arith)
           next (some rest) r f = subst (λ (l : List ℕ). Links table (suc left) b l) (Option·some-injective _ _ f) (goes q (ih n rest r))
 
-  links-length : {left b : ℕ} {bs : List ℕ} → Links table left b bs → length bs ≡ left
-  links-length (ends q) = refl
-  links-length (goes q l) = ap suc (links-length l)
+  links-chain : {left b : ℕ} {bs : List ℕ} → Links table left b bs → chain table left b ≡ some bs
+  unfolding chain chainStep
+  links-chain (ends q) = rw q
+  links-chain (goes q l) = rw (q, links-chain l)
+
+  -- ---- the same by places in the list
+
+  one-more : (k : ℕ) → suc k + 1 ≡ suc (k + 1)
+  one-more k = omega arith
+
+  one-less : (k : ℕ) → 1 ≤ k → suc k - 1 ≡ suc (k - 1)
+  one-less k h = omega arith
+
+  links-are : {left b : ℕ} {bs : List ℕ} → Links table left b bs → IsChain table left b bs
+  unfolding linkAt
+  links-are (ends q) = record {
+    long = refl;
+    not-empty = omega arith;
+    first = refl;
+    names = λ k h. absurd (omega arith);
+    in-user = λ k h. absurd (omega arith);
+    last = last-is _ q;
+  }
+  links-are (goes {left} {b} {n} {bs} q l) = go (links-are l)
+    where
+      go : IsChain table left n bs → IsChain table (suc left) b (b ∷ bs)
+      go c = record {
+        long = ap suc (c .long);
+        not-empty = omega arith;
+        first = refl;
+        names = names;
+        in-user = in-user;
+        last = rw (one-less left (c .not-empty)) (c .last);
+      }
+        where
+          names : (k : ℕ) → k < suc left - 1 → fatEntry table (getD (b ∷ bs) k 0) ≡ getD (b ∷ bs) (k + 1) 0
+          names zero h = next-is _ _ q .0 ∙ sym (c .first)
+          names (suc k) h = rw (one-more k) (c .names k (omega arith))
+
+          in-user : (k : ℕ) → k < suc left - 1 → fatEntry table (getD (b ∷ bs) k 0) < 200
+          in-user zero h = omega (arith, next-is _ _ q .0, next-is _ _ q .1)
+          in-user (suc k) h = c .in-user k (omega arith)
+
+  are-links : (bs : List ℕ) → IsChain table (length bs) (getD bs 0 0) bs → Links table (length bs) (getD bs 0 0) bs
+  unfolding linkAt linkOf
+  are-links [] c = absurd (omega (arith, c .not-empty))
+  are-links (b ∷ []) c = ends (ap linkOf (c .last))
+  are-links (b ∷ n ∷ bs) c = goes (next-of _ n (c .names 0 (omega arith)) (c .in-user 0 (omega arith))) (are-links (n ∷ bs) rest)
+    where
+      at : ℕ → ℕ
+      at k = getD (b ∷ n ∷ bs) k 0
+
+      rest : IsChain table (length (n ∷ bs)) n (n ∷ bs)
+      rest = record {
+        long = refl;
+        not-empty = omega arith;
+        first = refl;
+        names = λ k h. c .names (suc k) (omega arith) ∙ ap at (one-more k);
+        in-user = λ k h. c .in-user (suc k) (omega arith);
+        last = ap (λ (k : ℕ). fatEntry table (at k)) (sym (one-less (length (n ∷ bs)) (omega arith))) ∙ c .last;
+      }
+
+  are-chain : (left b : ℕ) (bs : List ℕ) → IsChain table left b bs → chain table left b ≡ some bs
+  are-chain left b bs c =
+      let e : chain table (length bs) (getD bs 0 0) ≡ some bs = links-chain (are-links bs (rw (c .long, c .first) c)) in
+      rw (c .long, c .first) at e
+
+  -- ---- what a chain that is there tells
 
   links-below : {left b : ℕ} {bs : List ℕ} → b < 200 → Links table left b bs → All (λ x. x < 200) bs
   unfolding linkAt
@@ -123,7 +210,7 @@ module _ (table : List ℕ) where
 
   module _ (left b : ℕ) (bs : List ℕ) (e : chain table left b ≡ some bs) where
     pub chain-length : length bs ≡ left
-    chain-length = links-length (chain-links left b bs e)
+    chain-length = links-are (chain-links left b bs e) .long
 
     pub chain-below : b < 200 → All (λ x. x < 200) bs
     chain-below h = links-below h (chain-links left b bs e)
@@ -141,3 +228,6 @@ module _ (table : List ℕ) where
         head : {left b : ℕ} {bs : List ℕ} → Links table left b bs → bs ≡ b ∷ drop 1 bs
         head (ends q) = refl
         head (goes q l) = refl
+
+pub chain-exactly : (table : List ℕ) (left b : ℕ) (blocks : List ℕ) → (chain table left b ≡ some blocks) ↔ IsChain table left b blocks
+chain-exactly table left b blocks = (λ e. links-are table (chain-links table left b blocks e), are-chain table left b blocks)

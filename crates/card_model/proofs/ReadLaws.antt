@@ -14,7 +14,7 @@ use Rattle.words.specs.Lists.{concat, numbersFrom}
 use Rattle.words.proofs.ListLaws.{All, all-map, all-mono, map-same}
 use Rattle.words.proofs.SearchLaws.{lowest-is, lowest-nothing}
 use Rattle.words.specs.Words.{sameBytes}
-use Rattle.words.proofs.WordLaws.{same-refl, same-eq}
+use Rattle.words.proofs.WordLaws.{same-refl, ne-same}
 use Rattle.words.proofs.PartsLaws.{part-at, numbers-read}
 use Rattle.words.proofs.JoinLaws.{none-range}
 use Rattle.verdicts.specs.declared.Place.the-variants.{Whole}
@@ -137,11 +137,7 @@ module _ (card : List ℕ) (s : SoundCard card) where
     where
       other : (i : ℕ) → i < 208 → (t : Bool) → isUsed (entryOn card i) ≡ t → (t && sameBytes (nameOf (entryOn card i)) name) ≡ false
       other i b false u = refl
-      other i b true u = differ (sameBytes (nameOf (entryOn card i)) name) refl
-        where
-          differ : (t : Bool) → sameBytes (nameOf (entryOn card i)) name ≡ t → t ≡ false
-          differ false q = refl
-          differ true q = absurd (h i (record { in-directory = b; is-used = u }) (same-eq _ name q))
+      other i b true u = ne-same _ name (h i (record { in-directory = b; is-used = u }))
 
   pub refused-32 : (i index : ℕ) (buffer : List ℕ) → UsedEntry card i → size (entryOn card i) ≤ index → length buffer ≡ 512
       → readVerdict card (nameOf (entryOn card i)) index buffer ≡ refusedAt 32 Whole

@@ -1,6 +1,8 @@
 -- All of the card's theorems. Assumes nothing.
 use Rattle.card_model.specs.Theorems.{Theorems}
 use Rattle.card_model.proofs.SoundLaws as sound
+use Rattle.card_model.proofs.RefusalLaws as refusals
+use Rattle.card_model.proofs.ChainLaws as chains
 use Rattle.card_model.proofs.FileLaws as files
 use Rattle.card_model.proofs.ReadLaws as reads
 use Rattle.card_model.proofs.WitnessLaws as witnesses
@@ -9,6 +11,8 @@ pub theorems : Theorems
 theorems = record {
   sound-exactly = sound.sound-exactly;
   accepted-sound = sound.accepted-sound;
+  refused-exactly = refusals.refused-exactly;
+  chain-exactly = chains.chain-exactly;
   sound-file = files.sound-file;
   files-apart = files.files-apart;
   at-most-200 = files.at-most-200;

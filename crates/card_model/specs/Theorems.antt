@@ -1,21 +1,23 @@
 -- What is proved of the definitions, above all of a card that passes the check.
 -- Assumes nothing.
-use Prim.Native.Nat.{ℕ, _+_, _*_, _≤_, _<_}
+use Prim.Native.Nat.{ℕ, _+_, _*_, _-_, _≤_, _<_}
 use mathlib.Core.Path.{_≡_}
 use mathlib.Core.Bool.{Bool, true, false}
 use mathlib.Core.List.{List, [], _∷_, map}
 use mathlib.Core.Option.{some}
 use mathlib.Core.Logic.{_↔_, _≢_, _⊎_}
-use lib.ListN.{length, take, drop, replicate}
+use lib.ListN.{length, getD, take, drop, replicate}
 use Rattle.words.specs.Lists.{keep, has, Distinct, concat, numbersFrom}
-use Rattle.verdicts.specs.declared.Place.the-variants.{Whole}
+use Rattle.verdicts.specs.declared.Place.{Place}
+use Rattle.verdicts.specs.declared.Place.the-variants.{Whole, Block, Entry}
+use Rattle.verdicts.specs.declared.Verdict.{Verdict}
 use Rattle.verdicts.specs.Rows.{done, refusedAt}
 use Rattle.card_model.specs.declared.Link.{Link}
 use Rattle.card_model.specs.declared.Link.the-variants.{Free, Damaged, Last, Next, Bad}
 use Rattle.card_model.specs.Layout.{cardLength, blockAt, rootOf, tableOf, directoryOf}
 use Rattle.card_model.specs.Table.{rightFields, fatEntry, linkAt, systemEntry, freeOrDamaged, isBad}
 use Rattle.card_model.specs.Entries.{nameOf, size, isUsed, isData, isGame, wrongEntry, entryAt, nameTaken}
-use Rattle.card_model.specs.Files.{badChain, fileOf, filesBefore, sharesBlock, breaksGameRule, orphans}
+use Rattle.card_model.specs.Files.{chain, badChain, fileOf, filesBefore, sharesBlock, breaksGameRule, orphans}
 use Rattle.card_model.specs.Calls.{verdictOf, listedEntry, notListed, listOf, named, readVerdict, readBuffer, SoundCard}
 use Rattle.card_model.specs.Examples.{emptyCard, filesCard}
 
@@ -79,11 +81,58 @@ countBlocks card class = length (keep (λ b. class (linkAt (tableOf card) b)) (n
 abbrev pub fileBlocks : List ℕ → ℕ
 fileBlocks card = length (filesBefore (tableOf card) (directoryOf card) 208)
 
+-- ---- what a refusal tells
+
+-- Row n of the table of numbers finds this place wrong. "A card refusal also names its place: the whole card (20, 31 to 33), a
+-- block (21 and 22: block 255; 23 to 25), or a directory entry (26 to 30)."
+pub data Wrong (card : List ℕ) : ℕ → Place → Type 0 where
+  row-20 : length card ≢ cardLength → Wrong card 20 Whole
+  row-21 : take 16 (rootOf card) ≢ replicate 16 0x55 → Wrong card 21 (Block 255)
+  row-22 : rightFields (rootOf card) ≡ false → Wrong card 22 (Block 255)
+  row-23 : {b : ℕ} → 241 ≤ b → b < 256 → fatEntry (tableOf card) b ≢ systemEntry b → Wrong card 23 (Block b)
+  row-24 : {b : ℕ} → 200 ≤ b → b < 241 → freeOrDamaged (linkAt (tableOf card) b) ≡ false → Wrong card 24 (Block b)
+  row-25 : {b : ℕ} → b < 200 → isBad (linkAt (tableOf card) b) ≡ true → Wrong card 25 (Block b)
+  row-26 : {i : ℕ} → i < 208 → wrongEntry (entryOn card i) ≡ true → Wrong card 26 (Entry i)
+  row-27 : {i : ℕ} → i < 208 → badChain (tableOf card) (entryOn card i) ≡ true → Wrong card 27 (Entry i)
+  row-28 : {i : ℕ} → i < 208 → sharesBlock (tableOf card) (directoryOf card) i ≡ true → Wrong card 28 (Entry i)
+  row-29 : {i : ℕ} → i < 208 → nameTaken (directoryOf card) i ≡ true → Wrong card 29 (Entry i)
+  row-30 : {i : ℕ} → i < 208 → breaksGameRule (tableOf card) (directoryOf card) i ≡ true → Wrong card 30 (Entry i)
+
+-- The number of the block or of the entry.
+abbrev pub placeNumber : Place → ℕ
+placeNumber Whole = 0
+placeNumber (Block b) = b
+placeNumber (Entry i) = i
+
+-- The verdict is the first thing that is wrong.
+pub record Refused (card : List ℕ) (v : Verdict) : Type 0 where
+  pub wrong : Wrong card (v .number) (v .place)
+  -- "20 to 30 in order, each over the whole card before the next"
+  pub lowest-row : (n : ℕ) (p : Place) → Wrong card n p → v .number ≤ n
+  -- "inside one, lowest block or lowest entry first"
+  pub lowest-place : (p : Place) → Wrong card (v .number) p → placeNumber (v .place) ≤ placeNumber p
+
+-- ---- what a chain is, without the walk
+
+-- The blocks are a chain from b with so many left: "The first size-1 entries each name a block in 0..199 and the last one is
+-- FFFA".
+pub record IsChain (table : List ℕ) (left b : ℕ) (blocks : List ℕ) : Type 0 where
+  pub long : length blocks ≡ left
+  pub not-empty : 1 ≤ left
+  pub first : getD blocks 0 0 ≡ b
+  pub names : (k : ℕ) → k < left - 1 → fatEntry table (getD blocks k 0) ≡ getD blocks (k + 1) 0
+  pub in-user : (k : ℕ) → k < left - 1 → fatEntry table (getD blocks k 0) < 200
+  pub last : fatEntry table (getD blocks (left - 1) 0) ≡ 0xFFFA
+
 pub record Theorems : Type 0 where
   -- the check is passed exactly when no row refuses
   pub sound-exactly : (card : List ℕ) → SoundCard card ↔ NoRowRefuses card
   -- number 0 names the whole card
   pub accepted-sound : (card : List ℕ) → verdictOf card .number ≡ 0 → SoundCard card
+  -- a card is refused exactly with the first thing that is wrong
+  pub refused-exactly : (card : List ℕ) (v : Verdict) → ((verdictOf card ≡ v) × (v .number ≢ 0)) ↔ Refused card v
+  -- the walk finds exactly the blocks that are a chain
+  pub chain-exactly : (table : List ℕ) (left b : ℕ) (blocks : List ℕ) → (chain table left b ≡ some blocks) ↔ IsChain table left b blocks
   pub sound-file : (card : List ℕ) → SoundCard card → (i : ℕ) → UsedEntry card i → SoundFile card i
   -- "chains of different used entries share no block"
   pub files-apart : (card : List ℕ) → SoundCard card → (i j b : ℕ) → UsedEntry card i → UsedEntry card j → i ≢ j

@@ -1,7 +1,7 @@
 -- Laws of runs of bytes and two-byte numbers. Assumes nothing.
 use Prim.Native.Nat.{ℕ, suc, _+_, _/_, _%_, _≤_, _<_}
 use mathlib.Core.Path.{_≡_, refl, sym, ap, _∙_}
-use mathlib.Core.Bool.{true, false, false≢true, and-false}
+use mathlib.Core.Bool.{Bool, true, false, false≢true, and-false}
 use mathlib.Core.List.{List, [], _∷_, _++_}
 use native.Mathlib.Omega.{arith}
 use lib.Dec.{eqb}
@@ -27,6 +27,13 @@ same-eq (x ∷ l) (y ∷ m) e =
 
 pub eq-same : (l m : List ℕ) → l ≡ m → sameBytes l m ≡ true
 eq-same l m e = ap (sameBytes l) (sym e) ∙ same-refl l
+
+pub ne-same : (l m : List ℕ) → (l ≡ m → ⊥) → sameBytes l m ≡ false
+ne-same l m d = go (sameBytes l m) refl
+  where
+    go : (t : Bool) → sameBytes l m ≡ t → t ≡ false
+    go true e = absurd (d (same-eq l m e))
+    go false e = refl
 
 -- the number whose two bytes stand after a front
 pub word-after : (front : List ℕ) (i n : ℕ) → length front ≡ i → word (front ++ wordBytes n) i ≡ n
