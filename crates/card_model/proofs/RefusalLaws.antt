@@ -109,7 +109,7 @@ module _ (card : List ℕ) where
 
   -- the verdict is the first thing wrong from row a on
   record First (a : ℕ) (v : Verdict) : Type 0 where
-    wrong : Wrong card (v .number) (v .place)
+    applies : Wrong card (v .number) (v .place)
     lowest-row : (n : ℕ) (p : Place) → a ≤ n → Wrong card n p → v .number ≤ n
     lowest-place : (p : Place) → Wrong card (v .number) p → placeNumber (v .place) ≤ placeNumber p
 
@@ -120,7 +120,7 @@ module _ (card : List ℕ) where
 
   unless-judged : {a m e : ℕ} {v w : Verdict} → Judged a m v → Judged m e w → Judged a e (unlessRefused v w)
   unless-judged {v = v} (refused f) later =
-      let n : v .number ≢ 0 = λ z. omega (arith, placed (f .wrong) .0, z) in
+      let n : v .number ≢ 0 = λ z. omega (arith, placed (f .applies) .0, z) in
       rw (ne-eqb (v .number) 0 n) (refused f)
   unless-judged {a} {m} {e} {v} {w} (passed d c) later = rw d (go later)
     where
@@ -130,7 +130,7 @@ module _ (card : List ℕ) where
           by : (n : ℕ) (p : Place) → a ≤ n → n < e → (t : Bool) → ltb n m ≡ t → Wrong card n p → ⊥
           by n p l h true t = c n p l (ltb-true n m t)
           by n p l h false t = c' n p (ltb-false n m t) h
-      go (refused f) = refused (record { wrong = f .wrong; lowest-row = λ n p l. by n p l (ltb n m) refl; lowest-place = f .lowest-place })
+      go (refused f) = refused (record { applies = f .applies; lowest-row = λ n p l. by n p l (ltb n m) refl; lowest-place = f .lowest-place })
         where
           by : (n : ℕ) (p : Place) → a ≤ n → (t : Bool) → ltb n m ≡ t → Wrong card n p → w .number ≤ n
           by n p l true t = λ x. absurd (c n p l (ltb-true n m t) x)
@@ -161,7 +161,7 @@ module _ (card : List ℕ) where
       let here : Wrong card n p = subst (λ (k : ℕ). Wrong card k p) (omega arith) w in
       omega (arith, placed here .0, fires here .0, ap (λ (v : Verdict). v .number) d))
   judged n (inr (e, w)) = refused (record {
-    wrong = subst (λ (k : ℕ). Wrong card k (row n .place)) (sym e) w;
+    applies = subst (λ (k : ℕ). Wrong card k (row n .place)) (sym e) w;
     lowest-row = λ m p l x. omega (arith, e);
     lowest-place = λ p x. fires (subst (λ (k : ℕ). Wrong card k p) e x) .1;
   })
@@ -188,15 +188,15 @@ module _ (card : List ℕ) where
   -- ---- the first thing wrong
 
   first-refused : (v : Verdict) → First 20 v → Refused card v
-  first-refused v f = record { wrong = f .wrong; lowest-row = λ n p w. f .lowest-row n p (placed w .0) w; lowest-place = f .lowest-place }
+  first-refused v f = record { applies = f .applies; lowest-row = λ n p w. f .lowest-row n p (placed w .0) w; lowest-place = f .lowest-place }
 
   one-verdict : (v w : Verdict) → Refused card v → Refused card w → v ≡ w
   one-verdict v w r s =
-      let n : v .number ≡ w .number = omega (arith, r .lowest-row _ _ (s .wrong), s .lowest-row _ _ (r .wrong)) in
-      let x : Wrong card (w .number) (v .place) = subst (λ (m : ℕ). Wrong card m (v .place)) n (r .wrong) in
-      let y : Wrong card (v .number) (w .place) = subst (λ (m : ℕ). Wrong card m (w .place)) (sym n) (s .wrong) in
+      let n : v .number ≡ w .number = omega (arith, r .lowest-row _ _ (s .applies), s .lowest-row _ _ (r .applies)) in
+      let x : Wrong card (w .number) (v .place) = subst (λ (m : ℕ). Wrong card m (v .place)) n (r .applies) in
+      let y : Wrong card (v .number) (w .place) = subst (λ (m : ℕ). Wrong card m (w .place)) (sym n) (s .applies) in
       let k : placeNumber (v .place) ≡ placeNumber (w .place) = omega (arith, r .lowest-place _ y, s .lowest-place _ x) in
-      let p : v .place ≡ w .place = placed x .2 ∙ ap (placeOf (w .number)) k ∙ sym (placed (s .wrong) .2) in
+      let p : v .place ≡ w .place = placed x .2 ∙ ap (placeOf (w .number)) k ∙ sym (placed (s .applies) .2) in
       ap (λ (m : ℕ). refusedAt m (v .place)) n ∙ ap (refusedAt (w .number)) p
 
   verdict-wrong : (v : Verdict) → Judged 20 31 v → v .number ≢ 0 → Refused card v
@@ -204,11 +204,11 @@ module _ (card : List ℕ) where
   verdict-wrong v (refused f) n = first-refused v f
 
   wrong-verdict : (v w : Verdict) → Judged 20 31 v → Refused card w → v ≡ w
-  wrong-verdict v w (passed d c) r = absurd (c _ _ (placed (r .wrong) .0) (placed (r .wrong) .1) (r .wrong))
+  wrong-verdict v w (passed d c) r = absurd (c _ _ (placed (r .applies) .0) (placed (r .applies) .1) (r .applies))
   wrong-verdict v w (refused f) r = one-verdict v w (first-refused v f) r
 
 pub refused-exactly : (card : List ℕ) (v : Verdict) → ((verdictOf card ≡ v) × (v .number ≢ 0)) ↔ Refused card v
 refused-exactly card v = (
   (λ h. verdict-wrong card v (subst (Judged card 20 31) (h .0) (all-rows card)) (h .1)),
-  (λ r. (wrong-verdict card _ v (all-rows card) r, λ z. omega (arith, placed card (r .wrong) .0, z))),
+  (λ r. (wrong-verdict card _ v (all-rows card) r, λ z. omega (arith, placed card (r .applies) .0, z))),
 )

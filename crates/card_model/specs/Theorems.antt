@@ -106,7 +106,7 @@ placeNumber (Entry i) = i
 
 -- The verdict is the first thing that is wrong.
 pub record Refused (card : List ℕ) (v : Verdict) : Type 0 where
-  pub wrong : Wrong card (v .number) (v .place)
+  pub applies : Wrong card (v .number) (v .place)
   -- "20 to 30 in order, each over the whole card before the next"
   pub lowest-row : (n : ℕ) (p : Place) → Wrong card n p → v .number ≤ n
   -- "inside one, lowest block or lowest entry first"
