@@ -117,16 +117,16 @@ fn listed(i: usize, bytes: &[u8]) -> Listing
     }
 }
 
-// The first used entry from `start` on.
-pub fn list(card: &[u8], start: usize) -> Listing
-    ensures { λ r. ⌜ r ≡ listOf (now (card .entry)) start ⌝ }
+// The first used entry from `from` on.
+pub fn list(card: &[u8], from: usize) -> Listing
+    ensures { λ r. ⌜ r ≡ listOf (now (card .entry)) from ⌝ }
 {
     let mut marks = [0u8; 200];
     let verdict = judge(card, &mut marks);
     if verdict.number != 0 {
         return not_listed(verdict);
     }
-    let FoundEntry::At(i) = first_used(card, start) else {
+    let FoundEntry::At(i) = first_used(card, from) else {
         return not_listed(whole(31));
     };
     listed(i, entry::entry_at(card, i))

@@ -22,7 +22,7 @@ returns c =
     let j = d .before .before .judge in
     let a = d .before .before .before .before .before .args in
     let card = a .card .now in
-    c .not-listed .ensures ∙ list-refused card (j .result) (j .ensures .0) (a .start) (d .if1 .taken)
+    c .not-listed .ensures ∙ list-refused card (j .result) (j .ensures .0) (a .from) (d .if1 .taken)
 
 first-used-requires : tie.Need-first-used-requires
 unfolding cardLength
@@ -53,7 +53,7 @@ returns-2 c =
     let a = d .before .before .before .before .before .args in
     let card = a .card .now in
     let o = found-none _ (sym (u .ensures) ∙ c .before .before .enum-told .given .1) in
-    c .not-listed2 .ensures ∙ ap notListed (c .before .whole .ensures) ∙ list-passed card (j .result) (j .ensures .0) (a .start) (d .if1 .left) _ o
+    c .not-listed2 .ensures ∙ ap notListed (c .before .whole .ensures) ∙ list-passed card (j .result) (j .ensures .0) (a .from) (d .if1 .left) _ o
 
 entry-at-requires : tie.Need-entry-at-requires
 unfolding cardLength
@@ -64,7 +64,7 @@ entry-at-requires c κs =
     let a = d .before .before .before .before .before .args in
     let card = a .card .now in
     let o = found-some _ _ (sym (u .ensures) ∙ c .before .i .given .1) in
-    (rows-hold card (j .result) (j .ensures .0) (d .if1 .left) .long, used-below (directoryOf card) (a .start) _ o)
+    (rows-hold card (j .result) (j .ensures .0) (d .if1 .left) .long, used-below (directoryOf card) (a .from) _ o)
 
 listed-requires : tie.Need-listed-requires
 listed-requires c κs = search needs
@@ -77,7 +77,7 @@ returns-3 c =
     let a = d .before .before .before .before .before .args in
     let card = a .card .now in
     let o = found-some _ _ (sym (u .ensures) ∙ c .before .before .before .i .given .1) in
-    c .listed .ensures ∙ ap (listedEntry _) (c .before .entry-at .ensures .0) ∙ list-passed card (j .result) (j .ensures .0) (a .start) (d .if1 .left) _ o
+    c .listed .ensures ∙ ap (listedEntry _) (c .before .entry-at .ensures .0) ∙ list-passed card (j .result) (j .ensures .0) (a .from) (d .if1 .left) _ o
 
 pub list-spec : {M : Type 1} → statement M
 list-spec =
