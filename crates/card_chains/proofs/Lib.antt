@@ -1,3 +1,4 @@
+pub mod LinkLaws
 pub mod WalkLaws
 pub mod MarkLaws
 pub mod FirstLaws

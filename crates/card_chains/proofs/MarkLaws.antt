@@ -21,7 +21,6 @@ use Rattle.card_model.specs.Entries.{isUsed, wrongEntry, entryAt}
 use Rattle.card_model.specs.Files.{chainOf, badChain, fileOf, filesBefore, sharesBlock, isOrphan, orphans}
 use Rattle.card_model.proofs.ChainLaws.{chain-below, chain-distinct}
 use Rattle.card_model.proofs.EntryLaws.{right-entry, file-chain, no-file, files-snoc}
-use Rattle.card_chains.specs.declared.walking.Found.{Found}
 use Rattle.card_chains.specs.Marks.{noMarks, isMarked, markAll, metMark, fileMarks, outcome, answer, Walked, fileChain, isBroken, isShared}
 
 -- ---- blocks that are marked one after the other
@@ -138,7 +137,7 @@ module _ (table : List ℕ) (directory : List (List ℕ)) where
   files-marked i b h =
       mark-has (filesBefore table directory i) noMarks b h ∙ rw (getD-replicate {A = ℕ} 200 b 0 0 h, or-false)
 
-  module _ (i : ℕ) {found : Found} {marks marks′ : List ℕ} (m : marks ≡ fileMarks table directory i)
+  module _ (i : ℕ) {found : ℕ} {marks marks′ : List ℕ} (m : marks ≡ fileMarks table directory i)
       (w : Walked (fileChain table (entryAt directory i)) marks false found marks′) where
     pub walk-broken : isBroken found ≡ badChain table (entryAt directory i)
     walk-broken = ap isBroken (w .answers) ∙ answer-broken (fileChain table (entryAt directory i)) marks ∙ sym (chain-bad table (entryAt directory i))

@@ -15,9 +15,7 @@ use Rattle.card_model.specs.Entries.{firstBlock, size, isUsed, wrongEntry}
 use Rattle.card_model.specs.Files.{chainStep, chain, chainOf}
 use Rattle.card_model.proofs.ChainLaws.{next-below, Links, ends, goes, chain-links, chain-head}
 use Rattle.card_model.proofs.EntryLaws.{right-entry}
-use Rattle.card_chains.specs.declared.walking.Found.{Found}
-use Rattle.card_chains.specs.declared.walking.Found.the-variants.{Broken, Apart}
-use Rattle.card_chains.specs.Marks.{isMarked, markAll, metMark, outcome, Walked, fileChain, IsAfter}
+use Rattle.card_chains.specs.Marks.{isMarked, markAll, metMark, outcome, broken, Walked, fileChain, IsAfter}
 
 pub step-below : (table : List ℕ) (b n : ℕ) {l : Link} → l ≡ linkAt table b → l ≡ Next n → n < 200
 unfolding linkAt
@@ -38,13 +36,13 @@ chain-step table (suc left) b h q told =
 -- ---- the walk
 
 module _ (marks : List ℕ) (shared : Bool) where
-  pub walked-broken : {o : Option (List ℕ)} (marks′ : List ℕ) → o ≡ none → Walked o marks shared Broken marks′
+  pub walked-broken : {o : Option (List ℕ)} (marks′ : List ℕ) → o ≡ none → Walked o marks shared broken marks′
   walked-broken marks′ e = record {
     answers = rw e;
     marked = λ bs f. let z : _≡_ {A = ℕ} 0 1 = cc in absurd (omega arith);
   }
 
-  module _ {o : Option (List ℕ)} {found : Found} {marks′ : List ℕ} where
+  module _ {o : Option (List ℕ)} {found : ℕ} {marks′ : List ℕ} where
     walked-some : (blocks : List ℕ) → o ≡ some blocks → found ≡ outcome (shared || metMark blocks marks) → marks′ ≡ markAll blocks marks
         → Walked o marks shared found marks′
     walked-some blocks e a m = record {
@@ -61,8 +59,8 @@ module _ (marks : List ℕ) (shared : Bool) where
         (w .answers ∙ ap outcome (or-assoc shared (isMarked marks b) (metMark rest (set marks b 1))))
         (w .marked rest refl)
 
-  pub walked-last : {o : Option (List ℕ)} {found : Found} (b left : ℕ) → (left ≡ 0 → ⊥) → o ≡ cond (eqb (left - 1) 0) (some (b ∷ [])) none
-      → found ≡ cond (eqb left 1) (outcome (shared || isMarked marks b)) Broken → Walked o marks shared found (set marks b 1)
+  pub walked-last : {o : Option (List ℕ)} {found : ℕ} (b left : ℕ) → (left ≡ 0 → ⊥) → o ≡ cond (eqb (left - 1) 0) (some (b ∷ [])) none
+      → found ≡ cond (eqb left 1) (outcome (shared || isMarked marks b)) broken → Walked o marks shared found (set marks b 1)
   unfolding markAll metMark
   walked-last {o} {found} b left h e q = go (eqb left 1) refl
     where
@@ -72,7 +70,7 @@ module _ (marks : List ℕ) (shared : Bool) where
           walked-some (b ∷ []) (e ∙ rw f) (q ∙ rw (d, or-false (isMarked marks b))) refl
       go false d =
           let f = ne-eqb (left - 1) 0 (λ z. omega (arith, h, eqb-false left 1 d)) in
-          let g : found ≡ Broken = q ∙ rw d in
+          let g : found ≡ broken = q ∙ rw d in
           rw g (walked-broken (set marks b 1) (e ∙ rw f))
 
 -- ---- the walk along an entry's file
@@ -82,11 +80,11 @@ module _ {entry entry′ : List ℕ} (e : entry′ ≡ entry) {used : Bool} (q :
   first-below b u p r = rw (p, e) (right-entry entry (sym (ap isUsed e) ∙ sym q ∙ u) r .0)
 
   module _ (table marks : List ℕ) where
-    pub walk-unused : used ≡ false → Walked (fileChain table entry) marks false Apart marks
+    pub walk-unused : used ≡ false → Walked (fileChain table entry) marks false (outcome false) marks
     unfolding fileChain metMark markAll
     walk-unused u = walked-some marks false [] (rw (← e, ← q, u)) refl refl
 
-    pub walk-used : {b n : ℕ} {found : Found} {marks′ : List ℕ} → used ≡ true → b ≡ firstBlock entry′ → n ≡ size entry′
+    pub walk-used : {b n : ℕ} {found : ℕ} {marks′ : List ℕ} → used ≡ true → b ≡ firstBlock entry′ → n ≡ size entry′
         → Walked (chain table n b) marks false found marks′ → Walked (fileChain table entry) marks false found marks′
     unfolding fileChain chainOf
     walk-used u p k w = rw (← e, ← q, u, ← p, ← k) w

@@ -11,8 +11,6 @@ use Rattle.verdicts.specs.declared.Verdict.{Verdict}
 use Rattle.verdicts.specs.Rows.{unlessRefused}
 use Rattle.card_model.specs.Entries.{isUsed}
 use Rattle.card_model.specs.Files.{chain, chainOf, filesBefore, chainRow, sharingRow}
-use Rattle.card_chains.specs.declared.walking.Found.{Found}
-use Rattle.card_chains.specs.declared.walking.Found.the-variants.{Broken, Shared, Apart}
 
 -- One number for each user block, not 0 where it is marked.
 unfoldable pub noMarks : List ℕ
@@ -40,16 +38,26 @@ chainRows table directory = unlessRefused (chainRow table directory) (sharingRow
 
 -- ---- walks
 
-abbrev pub outcome : Bool → Found
-outcome shared = cond shared Shared Apart
+-- What a walk finds is a number: that no block was marked before, that one was, or that the chain is bad.
+abbrev pub outcome : Bool → ℕ
+outcome shared = cond shared 1 0
+
+abbrev pub broken : ℕ
+broken = 2
+
+abbrev pub isBroken : ℕ → Bool
+isBroken found = eqb found broken
+
+abbrev pub isShared : ℕ → Bool
+isShared found = eqb found (outcome true)
 
 -- What a walk answers for a chain, or for none; `shared` tells whether a marked block was met before it.
-abbrev pub answer : Option (List ℕ) → List ℕ → Bool → Found
-answer none marks shared = Broken
+abbrev pub answer : Option (List ℕ) → List ℕ → Bool → ℕ
+answer none marks shared = broken
 answer (some blocks) marks shared = outcome (shared || metMark blocks marks)
 
 -- A walk's answer, and the marks that it leaves: those of its blocks too, where the chain is there.
-pub record Walked (blocks : Option (List ℕ)) (marks : List ℕ) (shared : Bool) (found : Found) (marks′ : List ℕ) : Type 0 where
+pub record Walked (blocks : Option (List ℕ)) (marks : List ℕ) (shared : Bool) (found : ℕ) (marks′ : List ℕ) : Type 0 where
   pub answers : found ≡ answer blocks marks shared
   pub marked : (bs : List ℕ) → blocks ≡ some bs → marks′ ≡ markAll bs marks
 
@@ -60,13 +68,3 @@ IsAfter table b steps r = (size : ℕ) (blocks : List ℕ) → chain table size 
 -- The chain of an entry's file: an unused entry's has no block.
 unfoldable pub fileChain : List ℕ → List ℕ → Option (List ℕ)
 fileChain table entry = cond (isUsed entry) (chainOf table entry) (some [])
-
-abbrev pub isBroken : Found → Bool
-isBroken Broken = true
-isBroken Shared = false
-isBroken Apart = false
-
-abbrev pub isShared : Found → Bool
-isShared Broken = false
-isShared Shared = true
-isShared Apart = false

@@ -1,8 +1,12 @@
 // The chains of a card's files: refusals 27 and 28, and the orphans. Each chain is walked once, tested and marked in the same
 // step.
+mod links;
 pub mod walking;
 
-use crate::walking::Found;
+use crate::links::read_table;
+use crate::walking::APART;
+use crate::walking::BROKEN;
+use crate::walking::SHARED;
 use crate::walking::walk;
 use card_directory::entry::entry_at;
 use card_directory::entry::first_block;
@@ -22,43 +26,32 @@ ghost use Rattle.card_model.specs.Layout.{tableOf, directoryOf};
 ghost use Rattle.card_model.specs.Entries.{wrongEntry};
 ghost use Rattle.card_model.specs.Files.{isOrphan, orphans};
 ghost use Rattle.card_model.specs.Theorems.{entryOn};
-ghost use Rattle.card_chains.specs.Marks.{noMarks, fileMarks, chainRows, Walked, fileChain, isBroken, isShared};
+ghost use Rattle.card_chains.specs.Marks.{noMarks, fileMarks, chainRows, Walked, fileChain, isShared};
 
 // The walk along the file of entry i.
-fn walk_file(card: &[u8], marks: &mut [u8; 200], i: usize) -> Found
+fn walk_file(card: &[u8], table: &[u16; 256], marks: &mut [u8; 200], i: usize) -> u8
     requires { ⌜ (length (now card) ≡ 131072) × (i < 208) ⌝ }
     requires { ⌜ wrongEntry (entryOn (now card) i) ≡ false ⌝ }
-    ensures { λ r. ⌜ Walked (fileChain (tableOf (now (card .entry))) (entryOn (now (card .entry)) i)) (now (marks .entry)) false r (now (marks .exit)) ⌝ }
+    ensures { λ r. ⌜ Walked (fileChain (now (table .entry)) (entryOn (now (card .entry)) i)) (now (marks .entry)) false r (now (marks .exit)) ⌝ }
 {
     let entry = entry_at(card, i);
     if !is_used(entry) {
-        return Found::Apart;
+        return APART;
     }
-    walk(card, marks, first_block(entry), size(entry), false)
-}
-
-fn is_broken(found: Found) -> bool
-    ensures { λ r. ⌜ r ≡ isBroken found ⌝ }
-{
-    match found {
-        Found::Broken => true,
-        Found::Shared => false,
-        Found::Apart => false,
-    }
+    walk(table, marks, first_block(entry), size(entry), false)
 }
 
 // The first entry that shares a block, 208 for none: the one remembered, or else entry i.
-fn remember(first: usize, found: Found, i: usize) -> usize
+fn remember(first: usize, found: u8, i: usize) -> usize
     ensures { λ r. ⌜ r ≡ cond (ltb first 208) first (cond (isShared found) i first) ⌝ }
 {
     if first < 208 {
         return first;
     }
-    match found {
-        Found::Shared => i,
-        Found::Broken => first,
-        Found::Apart => first,
+    if found == SHARED {
+        return i;
     }
+    first
 }
 
 // Refusals 27 and 28. A bad chain anywhere comes before a shared block, so the first entry that shares one is remembered and
@@ -69,11 +62,13 @@ pub fn walk_files(card: &[u8], marks: &mut [u8; 200]) -> Verdict
     ensures { λ r. ⌜ r ≡ chainRows (tableOf (now (card .entry))) (directoryOf (now (card .entry))) ⌝ }
     ensures { λ r. ⌜ (accepted r ≡ true → now (marks .exit) ≡ fileMarks (tableOf (now (card .entry))) (directoryOf (now (card .entry))) 208) ⌝ }
 {
+    let mut table = [0u16; 256];
+    read_table(card, &mut table);
     let mut first: usize = 208;
     let mut i = 0;
     while i < 208 {
-        let found = walk_file(card, marks, i);
-        if is_broken(found) {
+        let found = walk_file(card, &table, marks, i);
+        if found == BROKEN {
             return Verdict {
                 number: 27,
                 place: Place::Entry(i),
@@ -95,7 +90,7 @@ pub fn walk_files(card: &[u8], marks: &mut [u8; 200]) -> Verdict
 }
 
 // 1 for an orphan, else 0: a block that the table has in use and no file has marked.
-fn orphan_count(card: &[u8], marks: &[u8; 200], b: usize) -> usize
+fn orphan_at(card: &[u8], marks: &[u8; 200], b: usize) -> usize
     requires { ⌜ (length (now card) ≡ 131072) × (b < 200) ⌝ }
     requires { ⌜ now marks ≡ fileMarks (tableOf (now card)) (directoryOf (now card)) 208 ⌝ }
     ensures { λ r. ⌜ (r ≡ cond (isOrphan (tableOf (now (card .entry))) (directoryOf (now (card .entry))) b) 1 0) × (r ≤ 1) ⌝ }
@@ -118,7 +113,7 @@ pub fn count_orphans(card: &[u8], marks: &[u8; 200]) -> usize
     let mut count: usize = 0;
     let mut b = 0;
     while b < 200 {
-        count += orphan_count(card, marks, b);
+        count += orphan_at(card, marks, b);
         b += 1;
     }
     count

@@ -36,7 +36,7 @@ pub fn fat_entry(card: &[u8], b: usize) -> usize
     word(card, TABLE + 2 * b)
 }
 
-fn classify(e: usize) -> Link
+pub fn classify(e: usize) -> Link
     ensures { λ r. ⌜ r ≡ linkOf e ⌝ }
 {
     match e {

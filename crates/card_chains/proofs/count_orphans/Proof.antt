@@ -25,8 +25,8 @@ loop-holds c =
     let card = c .before .args .card .now in
     (search needs, search needs, omega (arith, count-orphans (tableOf card) (directoryOf card)))
 
-orphan-count-requires : tie.Need-orphan-count-requires Inv-loop μ-loop
-orphan-count-requires c κs = search needs
+orphan-at-requires : tie.Need-orphan-at-requires Inv-loop μ-loop
+orphan-at-requires c κs = search needs
 
 add-count : tie.Need-add-count Inv-loop μ-loop
 add-count c = search needs
@@ -42,7 +42,7 @@ loop-again c =
     let l = c .before .before in
     let card = l .before .before .args .card .now in
     let step = count-step (orphan card) (l .loop .b) 200 (omega arith) in
-    (omega arith, omega arith, omega (arith, step, c .orphan-count .ensures .0, l .loop .inv .2))
+    (omega arith, omega arith, omega (arith, step, c .orphan-at .ensures .0, l .loop .inv .2))
 
 returns : tie.Need-returns Inv-loop μ-loop
 returns c =
@@ -57,7 +57,7 @@ count-orphans-spec =
     Inv-loop
     μ-loop
     loop-holds
-    orphan-count-requires
+    orphan-at-requires
     add-count
     add-b
     loop-less

@@ -26,7 +26,7 @@ walk-requires c κs =
     let u = f .before .before in
     let a = u .before .before .before .before in
     let used = not-false _ (u .if1 .left) in
-    (a .pre .0 .0, first-below (u .before .before .entry-at .ensures .0) (u .before .is-used .ensures) _ used (f .first-block .ensures) (a .pre .1))
+    first-below (u .before .before .entry-at .ensures .0) (u .before .is-used .ensures) _ used (f .first-block .ensures) (a .pre .1)
 
 returns-2 : tie.Need-returns-2
 returns-2 c =

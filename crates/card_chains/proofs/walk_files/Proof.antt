@@ -15,6 +15,7 @@ use Rattle.card_chains.specs.Marks.{fileMarks}
 use Rattle.card_chains.proofs.MarkLaws.{marks-start, walk-broken, walk-marks, walk-shares}
 use Rattle.card_chains.proofs.FirstLaws.{orEnd, first-next, first-some, first-none}
 use borrow.Author.Needs.{needs}
+use borrow.Author.Tests.{eq-eqb, ne-eqb}
 use Rattle.card_chains.proofs.walk_files.Statement.{statement}
 use Rattle.card_chains.proofs.walk_files.Tie as tie
 
@@ -25,36 +26,38 @@ abbrev shares : List ℕ → ℕ → Bool
 shares card = sharesBlock (tableOf card) (directoryOf card)
 
 abbrev Inv-loop : tie.InvT-loop
-Inv-loop card marks₀ first₀ i₀ marks first i =
+Inv-loop card marks₀ table first₀ i₀ marks first i =
     (i ≤ 208) × (marks ≡ fileMarks (tableOf card) (directoryOf card) i)
     × (lowest (bad card) 0 208 ≡ lowest (bad card) i (208 - i)) × (first ≡ orEnd 208 (lowest (shares card) 0 i))
 
 abbrev μ-loop : tie.MeasureT-loop
-μ-loop card marks₀ first₀ i₀ marks first i = 208 - i
+μ-loop card marks₀ table first₀ i₀ marks first i = 208 - i
 
 -- at the end no chain is bad
 no-row : (card : List ℕ) (i : ℕ) → i ≡ 208 → lowest (bad card) 0 208 ≡ lowest (bad card) i (208 - i) → chainRow (tableOf card) (directoryOf card) ≡ done
 unfolding chainRow
 no-row card i z e = rw (e ∙ lowest-end (bad card) i _ (omega arith))
 
+read-table-requires : tie.Need-read-table-requires Inv-loop μ-loop
+read-table-requires c κs = search needs
+
 loop-holds : tie.Need-loop-holds Inv-loop μ-loop
-loop-holds c = (search needs, c .before .pre .0 .1 ∙ sym (marks-start _ _), refl, refl)
+loop-holds c = (search needs, c .before .before .before .pre .0 .1 ∙ sym (marks-start _ _), refl, refl)
 
 walk-file-requires : tie.Need-walk-file-requires Inv-loop μ-loop
 walk-file-requires c κs =
-    let a = c .before .before .before .before in
+    let a = c .before .before .before .before .before .before .before in
     ((a .pre .0 .0, omega arith), a .pre .1 _ (omega arith))
-
-is-broken-requires : tie.Need-is-broken-requires Inv-loop μ-loop
-is-broken-requires c κs = search needs
 
 returns : tie.Need-returns Inv-loop μ-loop
 unfolding chainRow
 returns c =
-    let w = c .before .before in
-    let l = w .before .before .before in
-    let card = l .before .before .args .card .now in
-    let b = sym (walk-broken _ _ _ (l .loop .inv .1) (w .walk-file .ensures)) ∙ sym (c .before .is-broken .ensures) ∙ c .if1 .taken in
+    let w = c .before in
+    let l = w .before .before .before .before in
+    let r = l .before in
+    let card = r .before .before .before .args .card .now in
+    let walked = rw (r .read-table .ensures) at (w .walk-file .ensures) in
+    let b = sym (walk-broken _ _ _ (l .loop .inv .1) walked) ∙ eq-eqb _ _ (c .if1 .taken) in
     (rw (l .loop .inv .2 ∙ lowest-here (bad card) (l .loop .i) _ (omega arith) b), λ e. absurd (false≢true e))
 
 remember-requires : tie.Need-remember-requires Inv-loop μ-loop
@@ -68,13 +71,14 @@ loop-less c = search needs
 
 loop-again : tie.Need-loop-again Inv-loop μ-loop
 loop-again c =
-    let w = c .before .before .before in
-    let l = w .before .before .before in
-    let a = l .before .before in
+    let w = c .before .before in
+    let l = w .before .before .before .before in
+    let r = l .before in
+    let a = r .before .before .before in
     let card = a .args .card .now in
     let h : l .loop .i < 208 = omega arith in
-    let walked = w .walk-file .ensures in
-    let sound = sym (c .before .before .is-broken .ensures) ∙ c .before .if1 .left in
+    let walked = rw (r .read-table .ensures) at (w .walk-file .ensures) in
+    let sound = ne-eqb _ _ (c .before .if1 .left) in
     let good = sym (walk-broken _ _ _ (l .loop .inv .1) walked) ∙ sound in (
       omega arith,
       walk-marks _ _ _ (l .loop .inv .1) walked sound,
@@ -87,7 +91,7 @@ returns-2 : tie.Need-returns-2 Inv-loop μ-loop
 unfolding sharingRow
 returns-2 c =
     let l = c .before .before in
-    let card = l .before .before .args .card .now in
+    let card = l .before .before .before .before .args .card .now in
     let z : l .loop .i ≡ 208 = omega arith in (
       rw (no-row card (l .loop .i) z (l .loop .inv .2), first-some (shares card) _ _ (l .loop .i) z (l .loop .inv .3) (c .if2 .taken)),
       λ e. absurd (false≢true e),
@@ -97,7 +101,7 @@ returns-3 : tie.Need-returns-3 Inv-loop μ-loop
 unfolding sharingRow
 returns-3 c =
     let l = c .before .before in
-    let card = l .before .before .args .card .now in
+    let card = l .before .before .before .before .args .card .now in
     let z : l .loop .i ≡ 208 = omega arith in (
       rw (no-row card (l .loop .i) z (l .loop .inv .2), first-none (shares card) _ _ (l .loop .i) z (l .loop .inv .3) (omega arith)),
       λ e. rw z at (l .loop .inv .1),
@@ -109,9 +113,9 @@ walk-files-spec =
     (tie.spec
     Inv-loop
     μ-loop
+    read-table-requires
     loop-holds
     walk-file-requires
-    is-broken-requires
     returns
     remember-requires
     add-i

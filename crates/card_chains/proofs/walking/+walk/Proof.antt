@@ -11,7 +11,7 @@ use Rattle.card_chains.proofs.walking.walk.Reads as walk
 use Rattle.card_chains.proofs.walking.walk.Kinds as walk-kinds
 use Rattle.card_chains.proofs.walking.+walk.Lts-walk as walk-lts
 use Rattle.card_chains.proofs.walking.ended.Reads as ended-reads
-use Rattle.card_table.proofs.link_at.Reads as link-at-reads
+use Rattle.card_chains.proofs.links.link_in.Reads as link-in-reads
 use Rattle.card_chains.proofs.walking.+walk.{statement}
 use Rattle.card_chains.proofs.walking.+walk.Tie.{close}
 
@@ -25,7 +25,7 @@ abbrev walk-below : ℕ → In 2 walk-kinds.ps
 walk-below t = and 2 walk-kinds.ps (falls 2 walk-kinds.ps _<_ μ-walk t) walk.Pre
 
 abbrev calls : ℕ → walk-lts.Claims
-calls t = (link-at-reads.Asked, link-at-reads.Learnt, ended-reads.Asked, ended-reads.Learnt, walk-below t, walk.Post)
+calls t = (link-in-reads.Asked, link-in-reads.Learnt, ended-reads.Asked, ended-reads.Learnt, walk-below t, walk.Post)
 
 module _ (t : ℕ) where
   returns : walk-lts.Need-returns (calls t) (walk-at t) walk.Post
@@ -37,8 +37,8 @@ module _ (t : ℕ) where
   element-write-marks : walk-lts.Need-element-write-marks (calls t) (walk-at t) walk.Post
   element-write-marks c = search needs
 
-  link-at-requires : walk-lts.Need-link-at-requires (calls t) (walk-at t) walk.Post
-  link-at-requires c κs = search needs
+  link-in-requires : walk-lts.Need-link-in-requires (calls t) (walk-at t) walk.Post
+  link-in-requires c κs = search needs
 
   enum-told : walk-lts.Need-enum-told (calls t) (walk-at t) walk.Post
   enum-told c = search needs
@@ -55,7 +55,7 @@ module _ (t : ℕ) where
   walk-requires : walk-lts.Need-walk-requires (calls t) (walk-at t) walk.Post
   walk-requires c κs =
       let n = c .before .before in
-      (omega arith, (search needs, step-below _ _ _ (n .before .before .link-at .ensures) (n .n .given .1)))
+      (omega arith, step-below _ _ _ (n .before .before .link-in .ensures) (n .n .given .1))
 
   enum-told-2 : walk-lts.Need-enum-told-2 (calls t) (walk-at t) walk.Post
   enum-told-2 c = search needs
@@ -71,39 +71,39 @@ module _ (t : ℕ) where
   returns-2 c =
       let l = c .before .before .before in
       let some-left = l .before .before .if1 .left in
-      walked-last _ _ _ _ some-left (chain-step _ _ _ some-left (l .link-at .ensures) (c .before .enum-told .given .1)) (c .ended .ensures)
+      walked-last _ _ _ _ some-left (chain-step _ _ _ some-left (l .link-in .ensures) (c .before .enum-told .given .1)) (c .ended .ensures)
 
   returns-3 : walk-lts.Need-returns-3 (calls t) (walk-at t) walk.Post
   unfolding chainStep isMarked
   returns-3 c =
       let n = c .before .before .before in
       let l = n .before .before in
-      walked-next _ _ _ _ (chain-step _ _ _ (l .before .before .if1 .left) (l .link-at .ensures) (n .n .given .1)) (c .walk .ensures)
+      walked-next _ _ _ _ (chain-step _ _ _ (l .before .before .if1 .left) (l .link-in .ensures) (n .n .given .1)) (c .walk .ensures)
 
   returns-4 : walk-lts.Need-returns-4 (calls t) (walk-at t) walk.Post
   unfolding chainStep
   returns-4 c =
       let l = c .before .before in
-      walked-broken _ _ _ (chain-step _ _ _ (l .before .before .if1 .left) (l .link-at .ensures) (c .enum-told2 .given .1))
+      walked-broken _ _ _ (chain-step _ _ _ (l .before .before .if1 .left) (l .link-in .ensures) (c .enum-told2 .given .1))
 
   returns-5 : walk-lts.Need-returns-5 (calls t) (walk-at t) walk.Post
   unfolding chainStep
   returns-5 c =
       let l = c .before .before in
-      walked-broken _ _ _ (chain-step _ _ _ (l .before .before .if1 .left) (l .link-at .ensures) (c .enum-told3 .given .1))
+      walked-broken _ _ _ (chain-step _ _ _ (l .before .before .if1 .left) (l .link-in .ensures) (c .enum-told3 .given .1))
 
   returns-6 : walk-lts.Need-returns-6 (calls t) (walk-at t) walk.Post
   unfolding chainStep
   returns-6 c =
       let l = c .before .before in
-      walked-broken _ _ _ (chain-step _ _ _ (l .before .before .if1 .left) (l .link-at .ensures) (c .enum-told4 .given .1))
+      walked-broken _ _ _ (chain-step _ _ _ (l .before .before .if1 .left) (l .link-in .ensures) (c .enum-told4 .given .1))
 
 pub +walk-spec : {M : Type 1} → statement M
 +walk-spec = close μ-walk λ t. walk-lts.spec (calls t) (walk-at t) walk.Post
     (returns t)
     (element-copy-out-met t)
     (element-write-marks t)
-    (link-at-requires t)
+    (link-in-requires t)
     (enum-told t)
     (ended-requires t)
     (enum-known-n t)

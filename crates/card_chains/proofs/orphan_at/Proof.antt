@@ -1,10 +1,10 @@
--- `orphan_count` meets its contract. Assumes nothing.
+-- `orphan_at` meets its contract. Assumes nothing.
 use borrow.Author.Needs.{needs}
 use borrow.Author.Tests.{eq-eqb, ne-eqb}
 use Rattle.card_chains.specs.Marks.{isMarked}
 use Rattle.card_chains.proofs.MarkLaws.{orphan-free, orphan-unmarked}
-use Rattle.card_chains.proofs.orphan_count.Statement.{statement}
-use Rattle.card_chains.proofs.orphan_count.Tie as tie
+use Rattle.card_chains.proofs.orphan_at.Statement.{statement}
+use Rattle.card_chains.proofs.orphan_at.Tie as tie
 
 link-at-requires : tie.Need-link-at-requires
 link-at-requires c κs = search needs
@@ -40,8 +40,8 @@ returns-3 c =
     let unmarked = orphan-unmarked _ _ _ (a .pre .1) (a .pre .0 .1) (f .before .link-at .ensures) (f .free-or-damaged .ensures) (i .if1 .left) in
     (rw (unmarked, eq-eqb _ _ (c .if2 .left)), search needs)
 
-pub orphan-count-spec : {M : Type 1} → statement M
-orphan-count-spec =
+pub orphan-at-spec : {M : Type 1} → statement M
+orphan-at-spec =
     tie.close
     (tie.spec
     link-at-requires

@@ -1,0 +1,98 @@
+-- `follow` meets its contract, with the steps left as its measure. Assumes nothing.
+use native.Mathlib.Omega.{arith}
+use Rattle.card_chains.proofs.WalkLaws.{step-below, after-none, after-next, after-stop}
+use borrow.Author.Needs.{needs}
+use Prim.Native.Nat.{ℕ, _<_}
+use borrow.Fn.Kinds.{In}
+use borrow.Fn.PlainCycle.{Measures, is, falls, and}
+use Rattle.card_chains.proofs.walking.follow.Reads as follow
+use Rattle.card_chains.proofs.walking.follow.Kinds as follow-kinds
+use Rattle.card_chains.proofs.walking.+follow.Lts-follow as follow-lts
+use Rattle.card_chains.proofs.links.link_in.Reads as link-in-reads
+use Rattle.card_chains.proofs.walking.+follow.{statement}
+use Rattle.card_chains.proofs.walking.+follow.Tie.{close}
+
+abbrev μ-follow : Measures 1 follow-kinds.ps ℕ
+μ-follow κs a = a .1 .1 .0
+
+abbrev follow-at : ℕ → In 1 follow-kinds.ps
+follow-at t = and 1 follow-kinds.ps (is 1 follow-kinds.ps μ-follow t) follow.Pre
+
+abbrev follow-below : ℕ → In 1 follow-kinds.ps
+follow-below t = and 1 follow-kinds.ps (falls 1 follow-kinds.ps _<_ μ-follow t) follow.Pre
+
+abbrev calls : ℕ → follow-lts.Claims
+calls t = (link-in-reads.Asked, link-in-reads.Learnt, follow-below t, follow.Post)
+
+module _ (t : ℕ) where
+  returns : follow-lts.Need-returns (calls t) (follow-at t) follow.Post
+  returns c = (after-none _ _ _ (c .if1 .taken), search needs)
+
+  link-in-requires : follow-lts.Need-link-in-requires (calls t) (follow-at t) follow.Post
+  link-in-requires c κs = search needs
+
+  enum-known-n : follow-lts.Need-enum-known-n (calls t) (follow-at t) follow.Post
+  enum-known-n c = search needs
+
+  sub-follow : follow-lts.Need-sub-follow (calls t) (follow-at t) follow.Post
+  sub-follow c = search needs
+
+  follow-requires : follow-lts.Need-follow-requires (calls t) (follow-at t) follow.Post
+  follow-requires c κs =
+      let n = c .before in
+      (omega arith, step-below _ _ _ (n .before .before .link-in .ensures) (n .n .given .1))
+
+  enum-told : follow-lts.Need-enum-told (calls t) (follow-at t) follow.Post
+  enum-told c = search needs
+
+  enum-told-2 : follow-lts.Need-enum-told-2 (calls t) (follow-at t) follow.Post
+  enum-told-2 c = search needs
+
+  enum-told-3 : follow-lts.Need-enum-told-3 (calls t) (follow-at t) follow.Post
+  enum-told-3 c = search needs
+
+  enum-told-4 : follow-lts.Need-enum-told-4 (calls t) (follow-at t) follow.Post
+  enum-told-4 c = search needs
+
+  returns-2 : follow-lts.Need-returns-2 (calls t) (follow-at t) follow.Post
+  returns-2 c =
+      let n = c .before .before in
+      let l = n .before .before in
+      (after-next _ _ _ (l .before .if1 .left) (l .link-in .ensures) _ _ (n .n .given .1) (c .follow .ensures .0), search needs)
+
+  returns-3 : follow-lts.Need-returns-3 (calls t) (follow-at t) follow.Post
+  returns-3 c =
+      let l = c .before .before in
+      (after-stop _ _ _ (l .before .if1 .left) (l .link-in .ensures) _ (c .enum-told .given .1) tt, search needs)
+
+  returns-4 : follow-lts.Need-returns-4 (calls t) (follow-at t) follow.Post
+  returns-4 c =
+      let l = c .before .before in
+      (after-stop _ _ _ (l .before .if1 .left) (l .link-in .ensures) _ (c .enum-told2 .given .1) tt, search needs)
+
+  returns-5 : follow-lts.Need-returns-5 (calls t) (follow-at t) follow.Post
+  returns-5 c =
+      let l = c .before .before in
+      (after-stop _ _ _ (l .before .if1 .left) (l .link-in .ensures) _ (c .enum-told3 .given .1) tt, search needs)
+
+  returns-6 : follow-lts.Need-returns-6 (calls t) (follow-at t) follow.Post
+  returns-6 c =
+      let l = c .before .before in
+      (after-stop _ _ _ (l .before .if1 .left) (l .link-in .ensures) _ (c .enum-told4 .given .1) tt, search needs)
+
+pub +follow-spec : {M : Type 1} → statement M
++follow-spec = close μ-follow λ t. follow-lts.spec (calls t) (follow-at t) follow.Post
+    (returns t)
+    (link-in-requires t)
+    (enum-known-n t)
+    (sub-follow t)
+    (follow-requires t)
+    (enum-told t)
+    (enum-told-2 t)
+    (enum-told-3 t)
+    (enum-told-4 t)
+    (returns-2 t)
+    (returns-3 t)
+    (returns-4 t)
+    (returns-5 t)
+    (returns-6 t)
