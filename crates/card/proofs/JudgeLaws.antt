@@ -14,20 +14,16 @@ use Rattle.card_model.specs.Entries.{wrongEntry, entryAt, entryRow, nameRow}
 use Rattle.card_model.specs.Files.{chainRow, sharingRow, gameRow}
 use Rattle.card_model.specs.Calls.{lengthRow, tableRows, directoryRows, verdictOf}
 use Rattle.card_model.proofs.SoundLaws.{unless-accepts, at-accepts, below-accepts}
-use Rattle.card_directory.specs.declared.Rule.the-variants.{Fields, Name, Game}
+use Rattle.card_directory.specs.declared.Rule.the-variants.{Fields, Game}
 use Rattle.card_directory.specs.Rules.{GoodChains, firstBroken}
 use Rattle.card_chains.specs.Marks.{chainRows}
 
--- ---- rows 26, 29 and 30 as the directory's code gives them
+-- ---- rows 26 and 30 as the directory's code gives them
 
 module _ (table : List ℕ) (directory : List (List ℕ)) where
   pub fields-row : rowOver 26 Entry (firstBroken Fields table directory 0) ≡ entryRow directory
   unfolding firstBroken entryRow
   fields-row = refl
-
-  pub names-row : rowOver 29 Entry (firstBroken Name table directory 0) ≡ nameRow directory
-  unfolding firstBroken nameRow
-  names-row = refl
 
   pub games-row : rowOver 30 Entry (firstBroken Game table directory 0) ≡ gameRow table directory
   unfolding firstBroken gameRow

@@ -7,6 +7,7 @@ use card_chains::walk_files;
 use card_chains::walking::block_after;
 use card_directory::Rule;
 use card_directory::entry;
+use card_directory::names::name_row;
 use card_directory::row;
 use card_directory::search::FoundEntry;
 use card_directory::search::find_named;
@@ -44,7 +45,7 @@ fn judge(card: &[u8], marks: &mut [u8; 200]) -> Verdict
     if chains.number != 0 {
         return chains;
     }
-    let names = row(card, Rule::Name, 29);
+    let names = name_row(card);
     if names.number != 0 {
         return names;
     }

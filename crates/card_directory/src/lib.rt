@@ -1,12 +1,12 @@
 // The directory of a card: its entries one by one, searches by use and by name, and refusals 26, 29 and 30.
 pub mod entry;
 pub mod games;
+pub mod names;
 pub mod search;
 
 use crate::entry::entry_at;
 use crate::entry::wrong_entry;
 use crate::games::breaks_game_rule;
-use crate::search::name_taken;
 use verdicts::Place;
 use verdicts::Verdict;
 ghost use mathlib.Core.Path.{_≡_};
@@ -17,10 +17,9 @@ ghost use Rattle.verdicts.specs.Rows.{rowOver};
 ghost use Rattle.card_model.specs.Layout.{tableOf, directoryOf};
 ghost use Rattle.card_directory.specs.Rules.{breaks, firstBroken, Ready};
 
-// What a row of the table of numbers tests: 26, 29, 30.
+// What a row of the table of numbers tests: 26, 30.
 pub enum Rule {
     Fields,
-    Name,
     Game,
 }
 
@@ -31,7 +30,6 @@ fn is_wrong(card: &[u8], rule: Rule, i: usize) -> bool
 {
     match rule {
         Rule::Fields => wrong_entry(entry_at(card, i)),
-        Rule::Name => name_taken(card, i),
         Rule::Game => breaks_game_rule(card, i),
     }
 }

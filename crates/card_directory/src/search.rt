@@ -3,7 +3,7 @@ use crate::entry::entry_at;
 use crate::entry::is_used;
 use words::same;
 ghost use mathlib.Core.Path.{_≡_};
-ghost use Prim.Native.Nat.{_≤_, _<_};
+ghost use Prim.Native.Nat.{_≤_};
 ghost use lib.ListN.{length};
 ghost use Rattle.words.specs.Search.{lowest};
 ghost use Rattle.card_model.specs.Layout.{directoryOf};
@@ -55,19 +55,4 @@ pub fn find_named(card: &[u8], name: &[u8], end: usize) -> FoundEntry
         i += 1;
     }
     FoundEntry::Nothing
-}
-
-// Refusal 29's test.
-pub(crate) fn name_taken(card: &[u8], i: usize) -> bool
-    requires { ⌜ (length (now card) ≡ 131072) × (i < 208) ⌝ }
-    ensures { λ r. ⌜ r ≡ model.nameTaken (directoryOf (now (card .entry))) i ⌝ }
-{
-    let entry = entry_at(card, i);
-    if !is_used(entry) {
-        return false;
-    }
-    match find_named(card, &entry[4..16], i) {
-        FoundEntry::At(_) => true,
-        FoundEntry::Nothing => false,
-    }
 }

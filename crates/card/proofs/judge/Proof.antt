@@ -2,7 +2,7 @@
 use mathlib.Core.Path.{_∙_}
 use borrow.Author.Tests.{eqb-true, eq-eqb}
 use Rattle.card_model.specs.Layout.{tableOf, directoryOf}
-use Rattle.card.proofs.JudgeLaws.{fields-row, names-row, games-row, table-refused, long, fields-refused, fields-right, chains-refused, good-chains, names-refused, names-passed}
+use Rattle.card.proofs.JudgeLaws.{fields-row, games-row, table-refused, long, fields-refused, fields-right, chains-refused, good-chains, names-refused, names-passed}
 use borrow.Author.Needs.{needs}
 use Rattle.card.proofs.judge.Statement.{statement}
 use Rattle.card.proofs.judge.Tie as tie
@@ -66,25 +66,17 @@ returns-3 c =
     let directory = directoryOf card in
     (chains-refused card (t .result) (t .ensures) (d .if1 .left) (f .result) ef (g .if2 .left) (w .result) (w .ensures .0) (c .if3 .taken), λ a. absurd (c .if3 .taken (eqb-true _ _ a)))
 
-row-requires-2 : tie.Need-row-requires-2
-row-requires-2 c κs =
-    let h = c in
-    let w = h .before .before .walk-files in
-    let g = h .before .before .before .before in
-    let f = g .before .before .row in
-    let ef = f .ensures ∙ fields-row _ _ in
-    let d = g .before .before .before in
+name-row-requires : tie.Need-name-row-requires
+name-row-requires c κs =
+    let d = c .before .before .before .before .before .before .before in
     let t = d .before .before .table-verdict in
     let card = d .before .before .before .before .args .card .now in
-    let table = tableOf card in
-    let directory = directoryOf card in
-    (long card (t .result) (t .ensures) (d .if1 .left), tt)
+    long card (t .result) (t .ensures) (d .if1 .left)
 
 returns-4 : tie.Need-returns-4
 returns-4 c =
     let k = c in
-    let m = k .before .before .row2 in
-    let em = m .ensures ∙ names-row _ _ in
+    let m = k .before .before .name-row in
     let h = k .before .before .before in
     let w = h .before .before .walk-files in
     let g = h .before .before .before .before in
@@ -95,13 +87,12 @@ returns-4 c =
     let card = d .before .before .before .before .args .card .now in
     let table = tableOf card in
     let directory = directoryOf card in
-    (names-refused card (t .result) (t .ensures) (d .if1 .left) (f .result) ef (g .if2 .left) (w .result) (w .ensures .0) (h .if3 .left) (m .result) em (c .if4 .taken), λ a. absurd (c .if4 .taken (eqb-true _ _ a)))
+    (names-refused card (t .result) (t .ensures) (d .if1 .left) (f .result) ef (g .if2 .left) (w .result) (w .ensures .0) (h .if3 .left) (m .result) (m .ensures) (c .if4 .taken), λ a. absurd (c .if4 .taken (eqb-true _ _ a)))
 
-row-requires-3 : tie.Need-row-requires-3
-row-requires-3 c κs =
+row-requires-2 : tie.Need-row-requires-2
+row-requires-2 c κs =
     let k = c in
-    let m = k .before .before .row2 in
-    let em = m .ensures ∙ names-row _ _ in
+    let m = k .before .before .name-row in
     let h = k .before .before .before in
     let w = h .before .before .walk-files in
     let g = h .before .before .before .before in
@@ -117,8 +108,7 @@ row-requires-3 c κs =
 returns-5 : tie.Need-returns-5
 returns-5 c =
     let k = c .before in
-    let m = k .before .before .row2 in
-    let em = m .ensures ∙ names-row _ _ in
+    let m = k .before .before .name-row in
     let h = k .before .before .before in
     let w = h .before .before .walk-files in
     let g = h .before .before .before .before in
@@ -129,7 +119,7 @@ returns-5 c =
     let card = d .before .before .before .before .args .card .now in
     let table = tableOf card in
     let directory = directoryOf card in
-    (c .row3 .ensures ∙ games-row _ _ ∙ names-passed card (t .result) (t .ensures) (d .if1 .left) (f .result) ef (g .if2 .left) (w .result) (w .ensures .0) (h .if3 .left) (m .result) em (k .if4 .left), λ a. w .ensures .1 (eq-eqb _ 0 (h .if3 .left)))
+    (c .row2 .ensures ∙ games-row _ _ ∙ names-passed card (t .result) (t .ensures) (d .if1 .left) (f .result) ef (g .if2 .left) (w .result) (w .ensures .0) (h .if3 .left) (m .result) (m .ensures) (k .if4 .left), λ a. w .ensures .1 (eq-eqb _ 0 (h .if3 .left)))
 
 pub judge-spec : {M : Type 1} → statement M
 judge-spec =
@@ -141,7 +131,7 @@ judge-spec =
     returns-2
     walk-files-requires
     returns-3
-    row-requires-2
+    name-row-requires
     returns-4
-    row-requires-3
+    row-requires-2
     returns-5)

@@ -19,26 +19,17 @@ wrong-entry-requires c κs = search needs
 enum-told-2 : tie.Need-enum-told-2
 enum-told-2 c = search needs
 
-name-taken-requires : tie.Need-name-taken-requires
-name-taken-requires c κs = search needs
-
-enum-told-3 : tie.Need-enum-told-3
-enum-told-3 c = search needs
-
 breaks-game-rule-requires : tie.Need-breaks-game-rule-requires
 breaks-game-rule-requires c κs =
     let a = c .before .before .before in
     let card = a .args .card .now in
-    (a .pre .0, subst (λ (r : Rule). Ready r (tableOf card) (directoryOf card)) (c .enum-told3 .given .1) (a .pre .1))
+    (a .pre .0, subst (λ (r : Rule). Ready r (tableOf card) (directoryOf card)) (c .enum-told2 .given .1) (a .pre .1))
 
 returns : tie.Need-returns
 returns c = rw (c .before .before .enum-told .given .1, c .wrong-entry .ensures, c .before .entry-at .ensures .0)
 
 returns-2 : tie.Need-returns-2
-returns-2 c = rw (c .before .enum-told2 .given .1) (c .name-taken .ensures)
-
-returns-3 : tie.Need-returns-3
-returns-3 c = rw (c .before .enum-told3 .given .1) (c .breaks-game-rule .ensures)
+returns-2 c = rw (c .before .enum-told2 .given .1) (c .breaks-game-rule .ensures)
 
 pub is-wrong-spec : {M : Type 1} → statement M
 is-wrong-spec =
@@ -48,9 +39,6 @@ is-wrong-spec =
     entry-at-requires
     wrong-entry-requires
     enum-told-2
-    name-taken-requires
-    enum-told-3
     breaks-game-rule-requires
     returns
-    returns-2
-    returns-3)
+    returns-2)

@@ -4,9 +4,10 @@ use borrow.Author.Tests.{not-true, not-false}
 use Rattle.card_model.specs.Layout.{directoryOf}
 use Rattle.card_model.specs.Entries.{nameOf}
 use Rattle.card_directory.proofs.DirectoryLaws.{found-some, found-none, unused-name, used-name}
+use Rattle.card_directory.proofs.PrintLaws.{unseen-name}
 use borrow.Author.Needs.{needs}
-use Rattle.card_directory.proofs.search.name_taken.Statement.{statement}
-use Rattle.card_directory.proofs.search.name_taken.Tie as tie
+use Rattle.card_directory.proofs.names.name_taken.Statement.{statement}
+use Rattle.card_directory.proofs.names.name_taken.Tie as tie
 
 entry-at-requires : tie.Need-entry-at-requires
 entry-at-requires c κs = search needs
@@ -20,6 +21,18 @@ returns c =
     let a = c .before .before .before .before .args in
     let u = sym (c .before .is-used .ensures) ∙ not-true _ (c .if1 .taken) in
     sym (unused-name (directoryOf (a .card .now)) (a .i) (n .result .now) (n .ensures .0) u)
+
+is-seen-requires : tie.Need-is-seen-requires
+is-seen-requires c κs = search needs
+
+returns-2 : tie.Need-returns-2
+returns-2 c =
+    let l = c .before .before in
+    let n = l .before .before .entry-at in
+    let d = l .before .before .before .before in
+    let u = sym (l .before .is-used .ensures) ∙ not-false _ (l .if1 .left) in
+    let s = sym (c .before .is-seen .ensures) ∙ not-true _ (c .if2 .taken) in
+    sym (unseen-name (directoryOf (d .args .card .now)) (d .args .i) (n .result .now) (n .ensures .0) (d .args .prints .now) (d .pre .1) u s)
 
 sub-find-named : tie.Need-sub-find-named
 sub-find-named c = search needs
@@ -39,20 +52,20 @@ enum-told c = search needs
 enum-told-2 : tie.Need-enum-told-2
 enum-told-2 c = search needs
 
-returns-2 : tie.Need-returns-2
+returns-3 : tie.Need-returns-3
 unfolding nameOf
-returns-2 c =
-    let l = c .before .before .before .before in
+returns-3 c =
+    let l = c .before .before .before .before .before .before in
     let n = l .before .before .entry-at in
     let a = l .before .before .before .before .args in
     let u = sym (l .before .is-used .ensures) ∙ not-false _ (l .if1 .left) in
     let o = found-some _ _ (sym (c .before .before .find-named .ensures) ∙ c .enum-told .given .1) in
     sym (used-name (directoryOf (a .card .now)) (a .i) (n .result .now) (n .ensures .0) u _ o)
 
-returns-3 : tie.Need-returns-3
+returns-4 : tie.Need-returns-4
 unfolding nameOf
-returns-3 c =
-    let l = c .before .before .before .before in
+returns-4 c =
+    let l = c .before .before .before .before .before .before in
     let n = l .before .before .entry-at in
     let a = l .before .before .before .before .args in
     let u = sym (l .before .is-used .ensures) ∙ not-false _ (l .if1 .left) in
@@ -66,11 +79,13 @@ name-taken-spec =
     entry-at-requires
     is-used-requires
     returns
+    is-seen-requires
+    returns-2
     sub-find-named
     part-find-named-start
     part-find-named-end
     find-named-requires
     enum-told
     enum-told-2
-    returns-2
-    returns-3)
+    returns-3
+    returns-4)
