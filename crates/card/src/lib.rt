@@ -17,11 +17,13 @@ use card_model::Listing;
 use card_table::table_verdict;
 use verdicts::Place;
 use verdicts::Verdict;
+use verdicts::done;
+use verdicts::refused_at;
 ghost use mathlib.Core.Path.{_≡_};
 ghost use mathlib.Core.Bool.{true, cond};
 ghost use lib.ListN.{length};
 ghost use Rattle.verdicts.specs.declared.Place.the-variants.{Whole};
-ghost use Rattle.verdicts.specs.Rows.{refusedAt, accepted};
+ghost use Rattle.verdicts.specs.Rows.{accepted};
 ghost use Rattle.card_model.specs.Layout.{tableOf, directoryOf};
 ghost use Rattle.card_model.specs.Calls.{verdictOf, checkOf, notListed, listedEntry, listOf, named, readRows, readVerdict, blockRead, readBuffer};
 ghost use Rattle.card_model.specs.Theorems.{NoRowRefuses};
@@ -70,16 +72,6 @@ pub fn check(card: &[u8]) -> Checked
     }
 }
 
-// This number, with the whole card for its place.
-fn whole(number: u8) -> Verdict
-    ensures { λ r. ⌜ r ≡ refusedAt number Whole ⌝ }
-{
-    Verdict {
-        number,
-        place: Place::Whole,
-    }
-}
-
 fn not_listed(verdict: Verdict) -> Listing
     ensures { λ r. ⌜ r ≡ notListed verdict ⌝ }
 {
@@ -106,7 +98,7 @@ fn listed(i: usize, bytes: &[u8]) -> Listing
     let mut time = [0u8; 8];
     bytes::copy(&bytes[16..24], &mut time);
     Listing {
-        verdict: whole(0),
+        verdict: done(),
         entry: i,
         kind: bytes[0],
         flag: bytes[1],
@@ -128,7 +120,7 @@ pub fn list(card: &[u8], from: usize) -> Listing
         return not_listed(verdict);
     }
     let FoundEntry::At(i) = first_used(card, from) else {
-        return not_listed(whole(31));
+        return not_listed(refused_at(31, Place::Whole));
     };
     listed(i, entry::entry_at(card, i))
 }
@@ -140,22 +132,22 @@ fn read_file(card: &[u8], name: &[u8], index: usize, block: &mut [u8]) -> Verdic
     ensures { λ r. ⌜ now (block .exit) ≡ cond (accepted r) (blockRead (now (card .entry)) index (named (directoryOf (now (card .entry))) (now (name .entry))) (now (block .entry))) (now (block .entry)) ⌝ }
 {
     if name.len() != 12 {
-        return whole(33);
+        return refused_at(33, Place::Whole);
     }
     if block.len() != 512 {
-        return whole(33);
+        return refused_at(33, Place::Whole);
     }
     let FoundEntry::At(i) = find_named(card, name, 208) else {
-        return whole(31);
+        return refused_at(31, Place::Whole);
     };
     let bytes = entry::entry_at(card, i);
     if entry::size(bytes) <= index {
-        return whole(32);
+        return refused_at(32, Place::Whole);
     }
     let at = block_after(card, entry::first_block(bytes), index) * 512;
     let end = at + 512;
     bytes::copy(&card[at..end], block);
-    whole(0)
+    done()
 }
 
 // Reads a block of the file of this name.

@@ -16,6 +16,8 @@ use card_table::free_or_damaged;
 use card_table::link_at;
 use verdicts::Place;
 use verdicts::Verdict;
+use verdicts::done;
+use verdicts::refused_at;
 ghost use mathlib.Core.Path.{_≡_};
 ghost use mathlib.Core.Bool.{cond, false, true};
 ghost use Prim.Native.Nat.{ℕ, _≤_, _<_};
@@ -69,24 +71,15 @@ pub fn walk_files(card: &[u8], marks: &mut [u8; 200]) -> Verdict
     while i < 208 {
         let found = walk_file(card, &table, marks, i);
         if found == BROKEN {
-            return Verdict {
-                number: 27,
-                place: Place::Entry(i),
-            };
+            return refused_at(27, Place::Entry(i));
         }
         first = remember(first, found, i);
         i += 1;
     }
     if first < 208 {
-        return Verdict {
-            number: 28,
-            place: Place::Entry(first),
-        };
+        return refused_at(28, Place::Entry(first));
     }
-    Verdict {
-        number: 0,
-        place: Place::Whole,
-    }
+    done()
 }
 
 // 1 for an orphan, else 0: a block that the table has in use and no file has marked.

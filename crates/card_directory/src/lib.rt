@@ -9,6 +9,8 @@ use crate::entry::wrong_entry;
 use crate::games::breaks_game_rule;
 use verdicts::Place;
 use verdicts::Verdict;
+use verdicts::done;
+use verdicts::refused_at;
 ghost use mathlib.Core.Path.{_≡_};
 ghost use Prim.Native.Nat.{_<_};
 ghost use lib.ListN.{length};
@@ -43,15 +45,9 @@ pub fn row(card: &[u8], rule: Rule, number: u8) -> Verdict
     let mut i = 0;
     while i < 208 {
         if is_wrong(card, rule, i) {
-            return Verdict {
-                number,
-                place: Place::Entry(i),
-            };
+            return refused_at(number, Place::Entry(i));
         }
         i += 1;
     }
-    Verdict {
-        number: 0,
-        place: Place::Whole,
-    }
+    done()
 }

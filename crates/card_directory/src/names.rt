@@ -5,6 +5,8 @@ use crate::search::FoundEntry;
 use crate::search::find_named;
 use verdicts::Place;
 use verdicts::Verdict;
+use verdicts::done;
+use verdicts::refused_at;
 use words::word;
 ghost use mathlib.Core.Path.{_≡_};
 ghost use Prim.Native.Nat.{_+_, _<_};
@@ -81,15 +83,9 @@ pub fn name_row(card: &[u8]) -> Verdict
     while i < 208 {
         prints[i] = print_of(entry_at(card, i));
         if name_taken(card, &prints, i) {
-            return Verdict {
-                number: 29,
-                place: Place::Entry(i),
-            };
+            return refused_at(29, Place::Entry(i));
         }
         i += 1;
     }
-    Verdict {
-        number: 0,
-        place: Place::Whole,
-    }
+    done()
 }

@@ -2,6 +2,8 @@
 use card_model::Link;
 use verdicts::Place;
 use verdicts::Verdict;
+use verdicts::done;
+use verdicts::refused_at;
 use words::same;
 use words::word;
 ghost use mathlib.Core.Path.{_≡_};
@@ -112,17 +114,11 @@ fn row(card: &[u8], region: Region, number: u8, from: usize, to: usize) -> Verdi
     let mut b = from;
     while b < to {
         if is_wrong(card, region, b) {
-            return Verdict {
-                number,
-                place: Place::Block(b),
-            };
+            return refused_at(number, Place::Block(b));
         }
         b += 1;
     }
-    Verdict {
-        number: 0,
-        place: Place::Whole,
-    }
+    done()
 }
 
 fn right_fields(root: &[u8]) -> bool
@@ -142,21 +138,12 @@ fn root_verdict(root: &[u8]) -> Verdict
     ensures { λ r. ⌜ r ≡ unlessRefused (magicRow (now (root .entry))) (fieldsRow (now (root .entry))) ⌝ }
 {
     if !same(&root[0..16], &[0x55u8; 16]) {
-        return Verdict {
-            number: 21,
-            place: Place::Block(255),
-        };
+        return refused_at(21, Place::Block(255));
     }
     if !right_fields(root) {
-        return Verdict {
-            number: 22,
-            place: Place::Block(255),
-        };
+        return refused_at(22, Place::Block(255));
     }
-    Verdict {
-        number: 0,
-        place: Place::Whole,
-    }
+    done()
 }
 
 // Refusals 20 to 25.
@@ -164,10 +151,7 @@ pub fn table_verdict(card: &[u8]) -> Verdict
     ensures { λ r. ⌜ r ≡ unlessRefused (lengthRow (now (card .entry))) (tableRows (rootOf (now (card .entry))) (tableOf (now (card .entry)))) ⌝ }
 {
     if card.len() != LENGTH {
-        return Verdict {
-            number: 20,
-            place: Place::Whole,
-        };
+        return refused_at(20, Place::Whole);
     }
     let root = root_verdict(&card[ROOT..LENGTH]);
     if root.number != 0 {

@@ -1,5 +1,8 @@
 // The answer of a call that tells where it refused: document 01, "A card refusal also names its place".
 
+ghost use mathlib.Core.Path.{_≡_};
+ghost use Rattle.verdicts.specs.Rows as rows;
+
 // The whole card, a block, or a directory entry.
 pub enum Place {
     Whole,
@@ -11,4 +14,19 @@ pub enum Place {
 pub struct Verdict {
     pub number: u8,
     pub place: Place,
+}
+
+pub fn done() -> Verdict
+    ensures { λ r. ⌜ r ≡ rows.done ⌝ }
+{
+    Verdict {
+        number: 0,
+        place: Place::Whole,
+    }
+}
+
+pub fn refused_at(number: u8, place: Place) -> Verdict
+    ensures { λ r. ⌜ r ≡ rows.refusedAt number place ⌝ }
+{
+    Verdict { number, place }
 }

@@ -39,8 +39,8 @@ enum-known-i c = search needs
 enum-told : tie.Need-enum-told
 enum-told c = search needs
 
-whole-requires : tie.Need-whole-requires
-whole-requires c κs = search needs
+refused-at-requires : tie.Need-refused-at-requires
+refused-at-requires c κs = search needs
 
 not-listed-requires-2 : tie.Need-not-listed-requires-2
 not-listed-requires-2 c κs = search needs
@@ -53,7 +53,7 @@ returns-2 c =
     let a = d .before .before .before .before .before .args in
     let card = a .card .now in
     let o = found-none _ (sym (u .ensures) ∙ c .before .before .enum-told .given .1) in
-    c .not-listed2 .ensures ∙ ap notListed (c .before .whole .ensures) ∙ list-passed card (j .result) (j .ensures .0) (a .from) (d .if1 .left) _ o
+    c .not-listed2 .ensures ∙ ap notListed (c .before .refused-at .ensures) ∙ list-passed card (j .result) (j .ensures .0) (a .from) (d .if1 .left) _ o
 
 entry-at-requires : tie.Need-entry-at-requires
 unfolding cardLength
@@ -89,7 +89,7 @@ list-spec =
     first-used-requires
     enum-known-i
     enum-told
-    whole-requires
+    refused-at-requires
     not-listed-requires-2
     returns-2
     entry-at-requires

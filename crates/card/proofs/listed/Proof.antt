@@ -37,8 +37,8 @@ slice-aggregate-copy-2 c = search needs
 copy-requires-2 : tie.Need-copy-requires-2
 copy-requires-2 c κs = search needs
 
-whole-requires : tie.Need-whole-requires
-whole-requires c κs = search needs
+done-requires : tie.Need-done-requires
+done-requires c κs = search needs
 
 shared-slice-read-t19 : tie.Need-shared-slice-read-t19
 shared-slice-read-t19 c = search needs
@@ -62,7 +62,7 @@ returns c =
     let bytes = a .args .bytes .now in
     let n = c .before .before .before .before .before .before .before .before .before .before .before .copy .ensures .1 ∙ name-part bytes (a .pre) in
     let m = c .before .before .before .before .before .before .before .copy2 .ensures .1 ∙ time-part bytes (a .pre) in
-    rw (c .before .before .before .before .before .whole .ensures, c .before .before .first-block .ensures, c .before .size .ensures, c .header-offset .ensures, n, m)
+    rw (c .before .before .before .before .before .done .ensures, c .before .before .first-block .ensures, c .before .size .ensures, c .header-offset .ensures, n, m)
 
 pub listed-spec : {M : Type 1} → statement M
 listed-spec =
@@ -78,7 +78,7 @@ listed-spec =
     part-copy-end-2
     slice-aggregate-copy-2
     copy-requires-2
-    whole-requires
+    done-requires
     shared-slice-read-t19
     shared-slice-read-t21
     first-block-requires

@@ -11,24 +11,24 @@ use borrow.Author.Needs.{needs}
 use Rattle.card.proofs.read_file.Statement.{statement}
 use Rattle.card.proofs.read_file.Tie as tie
 
-whole-requires : tie.Need-whole-requires
-whole-requires c κs = search needs
+refused-at-requires : tie.Need-refused-at-requires
+refused-at-requires c κs = search needs
 
 returns : tie.Need-returns
 returns c =
     let a = c .before .before .before .before .before in
     let card = a .args .card .now in
-    let r = wrong-name card (a .pre) (a .args .name .now) (a .args .index) (a .args .block .now) (c .whole .result) (c .whole .ensures) (c .before .if1 .taken) in
+    let r = wrong-name card (a .pre) (a .args .name .now) (a .args .index) (a .args .block .now) (c .refused-at .result) (c .refused-at .ensures) (c .before .if1 .taken) in
     (r .verdict-is, r .buffer-is)
 
-whole-requires-2 : tie.Need-whole-requires-2
-whole-requires-2 c κs = search needs
+refused-at-requires-2 : tie.Need-refused-at-requires-2
+refused-at-requires-2 c κs = search needs
 
 returns-2 : tie.Need-returns-2
 returns-2 c =
     let a = c .before .before .before .before .before .before in
     let card = a .args .card .now in
-    let r = wrong-block card (a .pre) (a .args .name .now) (a .args .index) (a .args .block .now) (c .whole2 .result) (c .whole2 .ensures) (c .before .if2 .taken) in
+    let r = wrong-block card (a .pre) (a .args .name .now) (a .args .index) (a .args .block .now) (c .refused-at2 .result) (c .refused-at2 .ensures) (c .before .if2 .taken) in
     (r .verdict-is, r .buffer-is)
 
 find-named-requires : tie.Need-find-named-requires
@@ -45,8 +45,8 @@ enum-known-i c = search needs
 enum-told : tie.Need-enum-told
 enum-told c = search needs
 
-whole-requires-3 : tie.Need-whole-requires-3
-whole-requires-3 c κs = search needs
+refused-at-requires-3 : tie.Need-refused-at-requires-3
+refused-at-requires-3 c κs = search needs
 
 returns-3 : tie.Need-returns-3
 unfolding named
@@ -55,7 +55,7 @@ returns-3 c =
     let a = d .before .before .before .before .before in
     let card = a .args .card .now in
     let q = found-none _ (sym (c .before .before .before .find-named .ensures) ∙ c .before .enum-told .given .1) in
-    let r = no-file card (a .pre) (a .args .name .now) (a .args .index) (a .args .block .now) (d .before .if1 .left) (d .if2 .left) (c .whole3 .result) (c .whole3 .ensures) q in
+    let r = no-file card (a .pre) (a .args .name .now) (a .args .index) (a .args .block .now) (d .before .if1 .left) (d .if2 .left) (c .refused-at3 .result) (c .refused-at3 .ensures) q in
     (r .verdict-is, r .buffer-is)
 
 entry-at-requires : tie.Need-entry-at-requires
@@ -71,8 +71,8 @@ entry-at-requires c κs =
 size-requires : tie.Need-size-requires
 size-requires c κs = search needs
 
-whole-requires-4 : tie.Need-whole-requires-4
-whole-requires-4 c κs = search needs
+refused-at-requires-4 : tie.Need-refused-at-requires-4
+refused-at-requires-4 c κs = search needs
 
 returns-4 : tie.Need-returns-4
 unfolding named
@@ -85,7 +85,7 @@ returns-4 c =
     let card = a .args .card .now in
     let q = found-some _ _ (sym (v .before .before .before .find-named .ensures) ∙ v .before .i .given .1) in
     let h = subst (λ (k : ℕ). k ≤ a .args .index) (z .ensures) (c .before .if3 .taken) in
-    let r = past-end card (a .pre) (a .args .name .now) (a .args .index) (a .args .block .now) (d .before .if1 .left) (d .if2 .left) _ q (n .result .now) (n .ensures .0) (c .whole4 .result) (c .whole4 .ensures) h in
+    let r = past-end card (a .pre) (a .args .name .now) (a .args .index) (a .args .block .now) (d .before .if1 .left) (d .if2 .left) _ q (n .result .now) (n .ensures .0) (c .refused-at4 .result) (c .refused-at4 .ensures) h in
     (r .verdict-is, r .buffer-is)
 
 first-block-requires : tie.Need-first-block-requires
@@ -122,8 +122,8 @@ part-copy-end c = omega (arith, c .before .before .before .before .before .befor
 copy-requires : tie.Need-copy-requires
 copy-requires c κs = search needs
 
-whole-requires-5 : tie.Need-whole-requires-5
-whole-requires-5 c κs = search needs
+done-requires : tie.Need-done-requires
+done-requires c κs = search needs
 
 same-length : tie.Need-same-length
 same-length c = search needs
@@ -141,25 +141,25 @@ returns-5 c =
     let q = found-some _ _ (sym (v .before .before .before .find-named .ensures) ∙ v .before .i .given .1) in
     let h = subst (λ (k : ℕ). a .args .index < k) (z .ensures) (p .before .before .if3 .left) in
     let t = subst (λ (k : ℕ). IsAfter (tableOf card) k (a .args .index) (p .block-after .result)) (p .before .first-block .ensures) (p .block-after .ensures .0) in
-    let r = in-file card (a .pre) (a .args .name .now) (a .args .index) (a .args .block .now) (d .before .if1 .left) (d .if2 .left) _ q (n .result .now) (n .ensures .0) (c .whole5 .result) (c .whole5 .ensures) h _ t (p .block-after .ensures .1) _ (c .before .before .before .copy .ensures .1) in
+    let r = in-file card (a .pre) (a .args .name .now) (a .args .index) (a .args .block .now) (d .before .if1 .left) (d .if2 .left) _ q (n .result .now) (n .ensures .0) (c .done .result) (c .done .ensures) h _ t (p .block-after .ensures .1) _ (c .before .before .before .copy .ensures .1) in
     (r .verdict-is, r .buffer-is)
 
 pub read-file-spec : {M : Type 1} → statement M
 read-file-spec =
     tie.close
     (tie.spec
-    whole-requires
+    refused-at-requires
     returns
-    whole-requires-2
+    refused-at-requires-2
     returns-2
     find-named-requires
     enum-known-i
     enum-told
-    whole-requires-3
+    refused-at-requires-3
     returns-3
     entry-at-requires
     size-requires
-    whole-requires-4
+    refused-at-requires-4
     returns-4
     first-block-requires
     block-after-requires
@@ -169,6 +169,6 @@ read-file-spec =
     part-copy-start
     part-copy-end
     copy-requires
-    whole-requires-5
+    done-requires
     same-length
     returns-5)

@@ -24,13 +24,18 @@ loop-holds c = refl
 is-wrong-requires : tie.Need-is-wrong-requires Inv-loop μ-loop
 is-wrong-requires c κs = search needs
 
+refused-at-requires : tie.Need-refused-at-requires Inv-loop μ-loop
+refused-at-requires c κs = search needs
+
 returns : tie.Need-returns Inv-loop μ-loop
 unfolding firstBroken
 returns c =
-    let l = c .before .before .before in
+    let w = c .before in
+    let l = w .before .before .before in
     let a = l .before .before .args in
     let p = breaks (a .rule) (tableOf (a .card .now)) (directoryOf (a .card .now)) in
-    ap (rowOver (a .number) Entry) (sym (l .loop .inv ∙ lowest-here p (l .loop .i) 208 (omega arith) (sym (c .before .is-wrong .ensures) ∙ c .if1 .taken)))
+    c .refused-at .ensures
+    ∙ ap (rowOver (a .number) Entry) (sym (l .loop .inv ∙ lowest-here p (l .loop .i) 208 (omega arith) (sym (w .before .is-wrong .ensures) ∙ w .if1 .taken)))
 
 add-i : tie.Need-add-i Inv-loop μ-loop
 add-i c = search needs
@@ -46,13 +51,18 @@ loop-again c =
     let p = breaks (a .rule) (tableOf (a .card .now)) (directoryOf (a .card .now)) in
     l .loop .inv ∙ lowest-next p (l .loop .i) 208 (omega arith) (sym (c .before .is-wrong .ensures) ∙ c .if1 .left)
 
+done-requires : tie.Need-done-requires Inv-loop μ-loop
+done-requires c κs = search needs
+
 returns-2 : tie.Need-returns-2 Inv-loop μ-loop
 unfolding firstBroken
 returns-2 c =
-    let l = c .before in
+    let w = c .before in
+    let l = w .before in
     let a = l .before .before .args in
     let p = breaks (a .rule) (tableOf (a .card .now)) (directoryOf (a .card .now)) in
-    ap (rowOver (a .number) Entry) (sym (l .loop .inv ∙ lowest-end p (l .loop .i) 208 (omega arith)))
+    c .done .ensures
+    ∙ ap (rowOver (a .number) Entry) (sym (l .loop .inv ∙ lowest-end p (l .loop .i) 208 (omega arith)))
 
 pub row-spec : {M : Type 1} → statement M
 row-spec =
@@ -62,8 +72,10 @@ row-spec =
     μ-loop
     loop-holds
     is-wrong-requires
+    refused-at-requires
     returns
     add-i
     loop-less
     loop-again
+    done-requires
     returns-2)

@@ -21,20 +21,35 @@ slice-aggregate-same c = search needs
 same-requires : tie.Need-same-requires
 same-requires c κs = search needs
 
+refused-at-requires : tie.Need-refused-at-requires
+refused-at-requires c κs = search needs
+
 returns : tie.Need-returns
 unfolding magicRow
-returns c = rw (sym (c .before .same .ensures) ∙ not-true _ (c .if1 .taken))
+returns c = c .refused-at .ensures ∙ rw (sym (c .before .before .same .ensures) ∙ not-true _ (c .before .if1 .taken))
 
 right-fields-requires : tie.Need-right-fields-requires
 right-fields-requires c κs = search needs
 
+refused-at-requires-2 : tie.Need-refused-at-requires-2
+refused-at-requires-2 c κs = search needs
+
 returns-2 : tie.Need-returns-2
 unfolding magicRow fieldsRow
-returns-2 c = rw (sym (c .before .before .before .same .ensures) ∙ not-false _ (c .before .before .if1 .left), sym (c .before .right-fields .ensures) ∙ not-true _ (c .if2 .taken))
+returns-2 c =
+    let d = c .before in
+    c .refused-at2 .ensures
+    ∙ rw (sym (d .before .before .before .same .ensures) ∙ not-false _ (d .before .before .if1 .left), sym (d .before .right-fields .ensures) ∙ not-true _ (d .if2 .taken))
+
+done-requires : tie.Need-done-requires
+done-requires c κs = search needs
 
 returns-3 : tie.Need-returns-3
 unfolding magicRow fieldsRow
-returns-3 c = rw (sym (c .before .before .before .same .ensures) ∙ not-false _ (c .before .before .if1 .left), sym (c .before .right-fields .ensures) ∙ not-false _ (c .if2 .left))
+returns-3 c =
+    let d = c .before in
+    c .done .ensures
+    ∙ rw (sym (d .before .before .before .same .ensures) ∙ not-false _ (d .before .before .if1 .left), sym (d .before .right-fields .ensures) ∙ not-false _ (d .if2 .left))
 
 pub root-verdict-spec : {M : Type 1} → statement M
 root-verdict-spec =
@@ -45,7 +60,10 @@ root-verdict-spec =
     part-same-end
     slice-aggregate-same
     same-requires
+    refused-at-requires
     returns
     right-fields-requires
+    refused-at-requires-2
     returns-2
+    done-requires
     returns-3)

@@ -29,12 +29,17 @@ is-wrong-requires c κs =
     let a = l .before .before in
     ((a .pre .0 .0, omega arith), ready-later (a .args .region) (a .args .from) (l .loop .b) (l .loop .inv .0) (a .pre .1))
 
+refused-at-requires : tie.Need-refused-at-requires Inv-loop μ-loop
+refused-at-requires c κs = search needs
+
 returns : tie.Need-returns Inv-loop μ-loop
 returns c =
-    let l = c .before .before .before in
+    let d = c .before in
+    let l = d .before .before .before in
     let a = l .before .before .args in
     let p = wrongIn (a .region) (tableOf (a .card .now)) in
-    ap (rowOver (a .number) Block) (sym (l .loop .inv .1 ∙ lowest-here p (l .loop .b) (a .to) (omega arith) (sym (c .before .is-wrong .ensures) ∙ c .if1 .taken)))
+    c .refused-at .ensures
+    ∙ ap (rowOver (a .number) Block) (sym (l .loop .inv .1 ∙ lowest-here p (l .loop .b) (a .to) (omega arith) (sym (d .before .is-wrong .ensures) ∙ d .if1 .taken)))
 
 add-b : tie.Need-add-b Inv-loop μ-loop
 add-b c = search needs
@@ -49,12 +54,15 @@ loop-again c =
     let p = wrongIn (a .region) (tableOf (a .card .now)) in
     (omega arith, l .loop .inv .1 ∙ lowest-next p (l .loop .b) (a .to) (omega arith) (sym (c .before .is-wrong .ensures) ∙ c .if1 .left))
 
+done-requires : tie.Need-done-requires Inv-loop μ-loop
+done-requires c κs = search needs
+
 returns-2 : tie.Need-returns-2 Inv-loop μ-loop
 returns-2 c =
-    let l = c .before in
+    let l = c .before .before in
     let a = l .before .before .args in
     let p = wrongIn (a .region) (tableOf (a .card .now)) in
-    ap (rowOver (a .number) Block) (sym (l .loop .inv .1 ∙ lowest-end p (l .loop .b) (a .to) (omega arith)))
+    c .done .ensures ∙ ap (rowOver (a .number) Block) (sym (l .loop .inv .1 ∙ lowest-end p (l .loop .b) (a .to) (omega arith)))
 
 pub row-spec : {M : Type 1} → statement M
 row-spec =
@@ -64,8 +72,10 @@ row-spec =
     μ-loop
     loop-holds
     is-wrong-requires
+    refused-at-requires
     returns
     add-b
     loop-less
     loop-again
+    done-requires
     returns-2)

@@ -11,9 +11,12 @@ use borrow.Author.Needs.{needs}
 use Rattle.card_table.proofs.table_verdict.Statement.{statement}
 use Rattle.card_table.proofs.table_verdict.Tie as tie
 
+refused-at-requires : tie.Need-refused-at-requires
+refused-at-requires c κs = search needs
+
 returns : tie.Need-returns
 unfolding lengthRow cardLength
-returns c = rw (ne-eqb (length (c .before .before .args .card .now)) 131072 (c .if1 .taken))
+returns c = c .refused-at .ensures ∙ rw (ne-eqb (length (c .before .before .before .args .card .now)) 131072 (c .before .if1 .taken))
 
 sub-root-verdict : tie.Need-sub-root-verdict
 sub-root-verdict c = search needs
@@ -95,6 +98,7 @@ pub table-verdict-spec : {M : Type 1} → statement M
 table-verdict-spec =
     tie.close
     (tie.spec
+    refused-at-requires
     returns
     sub-root-verdict
     part-root-verdict-start

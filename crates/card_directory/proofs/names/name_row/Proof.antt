@@ -45,13 +45,18 @@ name-taken-requires c κs =
     let e = c .before .before .entry-at .ensures .0 in
     ((a .pre, omega arith), printed-next _ (l .loop .i) _ e (l .loop .prints) (l .loop .inv .1) b _ (c .before .print-of .ensures))
 
+refused-at-requires : tie.Need-refused-at-requires Inv-loop μ-loop
+refused-at-requires c κs = search needs
+
 returns : tie.Need-returns Inv-loop μ-loop
 unfolding nameRow firstTaken
 returns c =
-    let l = c .before .before .before .before .before .before in
+    let w = c .before in
+    let l = w .before .before .before .before .before .before in
     let directory = directoryOf (l .before .before .args .card .now) in
-    let e = lowest-here (nameTaken directory) (l .loop .i) 208 (omega arith) (sym (c .before .name-taken .ensures) ∙ c .if1 .taken) in
-    ap (rowOver _ Entry) (sym (l .loop .inv .2 ∙ e))
+    let e = lowest-here (nameTaken directory) (l .loop .i) 208 (omega arith) (sym (w .before .name-taken .ensures) ∙ w .if1 .taken) in
+    c .refused-at .ensures
+    ∙ ap (rowOver _ Entry) (sym (l .loop .inv .2 ∙ e))
 
 add-i : tie.Need-add-i Inv-loop μ-loop
 add-i c = search needs
@@ -70,12 +75,17 @@ loop-again c =
     let e = lowest-next (nameTaken directory) (l .loop .i) 208 (omega arith) (sym (c .before .name-taken .ensures) ∙ c .if1 .left) in
     (simp length-set (l .loop .inv .0), h, l .loop .inv .2 ∙ e)
 
+done-requires : tie.Need-done-requires Inv-loop μ-loop
+done-requires c κs = search needs
+
 returns-2 : tie.Need-returns-2 Inv-loop μ-loop
 unfolding nameRow firstTaken
 returns-2 c =
-    let l = c .before in
+    let w = c .before in
+    let l = w .before in
     let directory = directoryOf (l .before .before .args .card .now) in
-    ap (rowOver _ Entry) (sym (l .loop .inv .2 ∙ lowest-end (nameTaken directory) (l .loop .i) 208 (omega arith)))
+    c .done .ensures
+    ∙ ap (rowOver _ Entry) (sym (l .loop .inv .2 ∙ lowest-end (nameTaken directory) (l .loop .i) 208 (omega arith)))
 
 pub name-row-spec : {M : Type 1} → statement M
 name-row-spec =
@@ -89,8 +99,10 @@ name-row-spec =
     mul-prints
     array-write-prints
     name-taken-requires
+    refused-at-requires
     returns
     add-i
     loop-less
     loop-again
+    done-requires
     returns-2)
