@@ -89,28 +89,28 @@ fn not_listed(verdict: Verdict) -> Listing
 }
 
 // Entry i, from its own bytes.
-fn listed(i: usize, bytes: &[u8]) -> Listing
-    requires { ⌜ length (now bytes) ≡ 32 ⌝ }
-    ensures { λ r. ⌜ r ≡ listedEntry i (now (bytes .entry)) ⌝ }
+fn listed(i: usize, found: &[u8]) -> Listing
+    requires { ⌜ length (now found) ≡ 32 ⌝ }
+    ensures { λ r. ⌜ r ≡ listedEntry i (now (found .entry)) ⌝ }
 {
     let mut name = [0u8; 12];
-    bytes::copy(&bytes[4..16], &mut name);
+    bytes::copy(&found[4..16], &mut name);
     let mut time = [0u8; 8];
-    bytes::copy(&bytes[16..24], &mut time);
+    bytes::copy(&found[16..24], &mut time);
     Listing {
         verdict: done(),
         entry: i,
-        kind: bytes[0],
-        flag: bytes[1],
-        first: entry::first_block(bytes),
-        size: entry::size(bytes),
-        offset: entry::header_offset(bytes),
+        kind: found[0],
+        flag: found[1],
+        first: entry::first_block(found),
+        size: entry::size(found),
+        offset: entry::header_offset(found),
         name,
         time,
     }
 }
 
-// The first used entry from `from` on.
+// The first used entry from `from` on; 31 where there is none.
 pub fn list(card: &[u8], from: usize) -> Listing
     ensures { λ r. ⌜ r ≡ listOf (now (card .entry)) from ⌝ }
 {
@@ -140,17 +140,17 @@ fn read_file(card: &[u8], name: &[u8], index: usize, block: &mut [u8]) -> Verdic
     let FoundEntry::At(i) = find_named(card, name, 208) else {
         return refused_at(31, Place::Whole);
     };
-    let bytes = entry::entry_at(card, i);
-    if entry::size(bytes) <= index {
+    let found = entry::entry_at(card, i);
+    if entry::size(found) <= index {
         return refused_at(32, Place::Whole);
     }
-    let at = block_after(card, entry::first_block(bytes), index) * 512;
+    let at = block_after(card, entry::first_block(found), index) * 512;
     let end = at + 512;
     bytes::copy(&card[at..end], block);
     done()
 }
 
-// Reads a block of the file of this name.
+// Reads a block of the file of this name into the buffer; past the check it refuses 33, 31 and 32, in this order.
 pub fn read(card: &[u8], name: &[u8], index: usize, block: &mut [u8]) -> Verdict
     ensures { λ r. ⌜ r ≡ readVerdict (now (card .entry)) (now (name .entry)) index (now (block .entry)) ⌝ }
     ensures { λ _. ⌜ now (block .exit) ≡ readBuffer (now (card .entry)) (now (name .entry)) index (now (block .entry)) ⌝ }

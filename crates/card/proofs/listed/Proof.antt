@@ -59,9 +59,9 @@ returns : tie.Need-returns
 unfolding listedEntry kind flag nameOf timeOf
 returns c =
     let a = c .before .before .before .before .before .before .before .before .before .before .before .before .before .before .before in
-    let bytes = a .args .bytes .now in
-    let n = c .before .before .before .before .before .before .before .before .before .before .before .copy .ensures .1 ∙ name-part bytes (a .pre) in
-    let m = c .before .before .before .before .before .before .before .copy2 .ensures .1 ∙ time-part bytes (a .pre) in
+    let found = a .args .found .now in
+    let n = c .before .before .before .before .before .before .before .before .before .before .before .copy .ensures .1 ∙ name-part found (a .pre) in
+    let m = c .before .before .before .before .before .before .before .copy2 .ensures .1 ∙ time-part found (a .pre) in
     rw (c .before .before .before .before .before .done .ensures, c .before .before .first-block .ensures, c .before .size .ensures, c .header-offset .ensures, n, m)
 
 pub listed-spec : {M : Type 1} → statement M
