@@ -262,7 +262,10 @@ def layout():
     line("(j) place of entry 16", entry_place(16))
     line("(k) byte of the table entry of block 253", TABLE * 512 + 2 * 253)
     line("places of entries 0, 15, 207", *map(entry_place, (0, 15, 207)))
+    line("image bytes of entries 0, 15, 16, 207", *(b * 512 + at for b, at in map(entry_place, (0, 15, 16, 207))))
     line("bytes of the table entries of blocks 0, 255", TABLE * 512, TABLE * 512 + 2 * 255)
+    own_places = block(range(1600), 2)
+    line("block 2 of 1600 numbers, each its own place: the first two, and how many", *own_places[:2], len(own_places))
     line("bytes of a card, entries of its table and of its directory", CARD_LENGTH, len(table_with()), len(ENTRIES))
 
 

@@ -1,7 +1,6 @@
 -- What the calls answer once the verdict v of the check is known. Assumes nothing.
 use Prim.Native.Nat.{ℕ, _<_, _-_}
 use mathlib.Core.Path.{_≡_, sym, ap, _∙_}
-use mathlib.Core.Bool.{cond}
 use mathlib.Core.List.{List, _++_}
 use mathlib.Core.Option.{Option, some}
 use native.Mathlib.Omega.{arith}
@@ -15,8 +14,8 @@ use Rattle.card_model.specs.declared.Checked.{Checked}
 use Rattle.card_model.specs.Layout.{tableOf, directoryOf}
 use Rattle.card_model.specs.Entries.{nameOf, timeOf}
 use Rattle.card_model.specs.Files as files
-use Rattle.card_model.specs.Calls.{verdictOf, checkOf, notListed, firstUsed, listedFrom, listOf, named, readRows, readVerdict, blockRead, readBuffer}
-use Rattle.card_model.specs.Theorems.{NoRowRefuses}
+use Rattle.card_model.specs.Calls.{verdictOf, checkOf, notListed, firstUsed, listedFrom, listOf, entryNamed, readRows, readVerdict, leftBy, readBuffer}
+use Rattle.card_model.specs.Sound.{NoRowRefuses}
 use Rattle.card_model.proofs.SoundLaws.{accepted-rows}
 
 module _ (card : List ℕ) (v : Verdict) (e : v ≡ verdictOf card) where
@@ -52,7 +51,7 @@ module _ (card : List ℕ) (v : Verdict) (e : v ≡ verdictOf card) where
 
     -- r and `left` are what the rest of a read answered and left
     pub read-passed : v .number ≡ 0 → (r : Verdict) → r ≡ readRows (directoryOf card) name index buffer
-        → (left : List ℕ) → left ≡ cond (accepted r) (blockRead card index (named (directoryOf card) name) buffer) buffer
+        → (left : List ℕ) → left ≡ leftBy r card index (entryNamed (directoryOf card) name) buffer
         → (r ≡ readVerdict card name index buffer) × (left ≡ readBuffer card name index buffer)
     unfolding readVerdict readBuffer
     read-passed z r q left w =

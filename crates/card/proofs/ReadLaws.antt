@@ -1,7 +1,7 @@
 -- A read from a sound card: rows 33, 31 and 32, or the block. Assumes nothing.
 use Prim.Native.Nat.{ℕ, _+_, _-_, _*_, _≤_, _<_}
 use mathlib.Core.Path.{_≡_, refl, sym, ap, _∙_}
-use mathlib.Core.Bool.{true, false, cond, or-true}
+use mathlib.Core.Bool.{true, false, or-true}
 use mathlib.Core.List.{List, _++_}
 use mathlib.Core.Option.{none, some}
 use native.Mathlib.Omega.{arith}
@@ -14,18 +14,18 @@ use Rattle.words.proofs.SearchLaws.{lowest-some}
 use Rattle.words.proofs.PartsLaws.{copied-over}
 use Rattle.verdicts.specs.declared.Place.the-variants.{Whole}
 use Rattle.verdicts.specs.declared.Verdict.{Verdict}
-use Rattle.verdicts.specs.Rows.{refusedAt, accepted}
+use Rattle.verdicts.specs.Rows.{refusedAt}
 use Rattle.card_model.specs.Layout.{cardLength, blockAt, tableOf, directoryOf}
 use Rattle.card_model.specs.Entries.{firstBlock, size, isUsed, entryAt, isNamed}
 use Rattle.card_model.specs.Files.{chain, fileOf}
-use Rattle.card_model.specs.Calls.{named, readRows, fileBlock, blockRead}
-use Rattle.card_model.specs.Theorems.{NoRowRefuses}
+use Rattle.card_model.specs.Calls.{entryNamed, readRows, fileBlock, leftBy}
+use Rattle.card_model.specs.Sound.{NoRowRefuses}
 use Rattle.card_model.proofs.EntryLaws.{right-entry, file-chain}
 use Rattle.card_chains.specs.Marks.{IsAfter}
 
 -- an entry that a name found is in the directory
-pub named-below : (directory : List (List ℕ)) (name : List ℕ) (i : ℕ) → named directory name ≡ some i → i < 208
-unfolding named
+pub named-below : (directory : List (List ℕ)) (name : List ℕ) (i : ℕ) → entryNamed directory name ≡ some i → i < 208
+unfolding entryNamed
 named-below directory name i e =
     let l = lowest-some (λ j. isNamed name (entryAt directory j)) 0 208 i e in
     omega (arith, l .high)
@@ -44,7 +44,7 @@ module _ (card : List ℕ) (rows : NoRowRefuses card) (name : List ℕ) (index :
   -- r is the verdict, and the buffer is left so
   pub record ReadAs (r : Verdict) (left : List ℕ) : Type 0 where
     pub verdict-is : r ≡ readRows directory name index buffer
-    pub buffer-is : left ≡ cond (accepted r) (blockRead card index (named directory name) buffer) buffer
+    pub buffer-is : left ≡ leftBy r card index (entryNamed directory name) buffer
 
   refused : (n : ℕ) (r : Verdict) → eqb n 0 ≡ false → r ≡ refusedAt n Whole → refusedAt n Whole ≡ readRows directory name index buffer → ReadAs r buffer
   refused n r z e q = record { verdict-is = e ∙ q; buffer-is = rw (e, z) }
@@ -58,18 +58,18 @@ module _ (card : List ℕ) (rows : NoRowRefuses card) (name : List ℕ) (index :
   wrong-block r e n = refused 33 r refl e (rw (ne-eqb (length buffer) 512 n, or-true))
 
   module _ (n : length name ≡ 12) (l : length buffer ≡ 512) where
-    pub no-file : (r : Verdict) → r ≡ refusedAt 31 Whole → named directory name ≡ none → ReadAs r buffer
+    pub no-file : (r : Verdict) → r ≡ refusedAt 31 Whole → entryNamed directory name ≡ none → ReadAs r buffer
     unfolding readRows
     no-file r e q = refused 31 r refl e (rw (n, l, q))
 
     -- s is the entry that was found
-    module _ (i : ℕ) (q : named directory name ≡ some i) (s : List ℕ) (es : s ≡ entryAt directory i) where
+    module _ (i : ℕ) (q : entryNamed directory name ≡ some i) (s : List ℕ) (es : s ≡ entryAt directory i) where
       pub past-end : (r : Verdict) → r ≡ refusedAt 32 Whole → size s ≤ index → ReadAs r buffer
       unfolding readRows
       past-end r e h = refused 32 r refl e (rw (n, l, q, ← es, le-leb (size s) index h))
 
       used : isUsed s ≡ true
-      unfolding named isNamed
+      unfolding entryNamed isNamed
       used = rw es (and-true-left _ _ (lowest-some (λ j. isNamed name (entryAt directory j)) 0 208 i q .passes))
 
       pub first-below : firstBlock s < 200

@@ -20,13 +20,13 @@ use verdicts::Verdict;
 use verdicts::done;
 use verdicts::refused_at;
 ghost use mathlib.Core.Path.{_≡_};
-ghost use mathlib.Core.Bool.{true, cond};
+ghost use mathlib.Core.Bool.{true};
 ghost use lib.ListN.{length};
 ghost use Rattle.verdicts.specs.declared.Place.the-variants.{Whole};
 ghost use Rattle.verdicts.specs.Rows.{accepted};
 ghost use Rattle.card_model.specs.Layout.{tableOf, directoryOf};
-ghost use Rattle.card_model.specs.Calls.{verdictOf, checkOf, notListed, listedEntry, listOf, named, readRows, readVerdict, blockRead, readBuffer};
-ghost use Rattle.card_model.specs.Theorems.{NoRowRefuses};
+ghost use Rattle.card_model.specs.Calls.{verdictOf, checkOf, notListed, listedEntry, listOf, entryNamed, readRows, readVerdict, leftBy, readBuffer};
+ghost use Rattle.card_model.specs.Sound.{NoRowRefuses};
 ghost use Rattle.card_chains.specs.Marks.{noMarks, fileMarks};
 
 // Refusals 20 to 30; the blocks of all files are marked where none applies.
@@ -129,7 +129,7 @@ pub fn list(card: &[u8], from: usize) -> Listing
 fn read_file(card: &[u8], name: &[u8], index: usize, block: &mut [u8]) -> Verdict
     requires { ⌜ NoRowRefuses (now card) ⌝ }
     ensures { λ r. ⌜ r ≡ readRows (directoryOf (now (card .entry))) (now (name .entry)) index (now (block .entry)) ⌝ }
-    ensures { λ r. ⌜ now (block .exit) ≡ cond (accepted r) (blockRead (now (card .entry)) index (named (directoryOf (now (card .entry))) (now (name .entry))) (now (block .entry))) (now (block .entry)) ⌝ }
+    ensures { λ r. ⌜ now (block .exit) ≡ leftBy r (now (card .entry)) index (entryNamed (directoryOf (now (card .entry))) (now (name .entry))) (now (block .entry)) ⌝ }
 {
     if name.len() != 12 {
         return refused_at(33, Place::Whole);

@@ -27,7 +27,7 @@ ghost use Rattle.verdicts.specs.Rows.{accepted};
 ghost use Rattle.card_model.specs.Layout.{tableOf, directoryOf};
 ghost use Rattle.card_model.specs.Entries.{wrongEntry};
 ghost use Rattle.card_model.specs.Files.{isOrphan, orphans};
-ghost use Rattle.card_model.specs.Theorems.{entryOn};
+ghost use Rattle.card_model.specs.Sound.{entryOn};
 ghost use Rattle.card_chains.specs.Marks.{noMarks, fileMarks, chainRows, Walked, fileChain, isShared};
 
 // The walk along the file of entry i.

@@ -61,6 +61,12 @@ pub data Links (table : List ℕ) : ℕ → ℕ → List ℕ → Type 0 where
   ends : {b : ℕ} → linkAt table b ≡ Last → Links table 1 b (b ∷ [])
   goes : {left b n : ℕ} {bs : List ℕ} → linkAt table b ≡ Next n → Links table left n bs → Links table (suc left) b (b ∷ bs)
 
+pub one-more : (k : ℕ) → suc k + 1 ≡ suc (k + 1)
+one-more k = omega arith
+
+one-less : (k : ℕ) → 1 ≤ k → suc k - 1 ≡ suc (k - 1)
+one-less k h = omega arith
+
 module _ (table : List ℕ) where
   pub chain-links : (left b : ℕ) (bs : List ℕ) → chain table left b ≡ some bs → Links table left b bs
   unfolding chain chainStep
@@ -74,7 +80,7 @@ module _ (table : List ℕ) where
       go ih Bad q f = let z : _≡_ {A = ℕ} 0 1 = cc in absurd (omega arith)
       go ih Last q f = last left f
         where
-          last : (k : ℕ) → cond (eqb k 0) (some (b ∷ [])) none ≡ some bs → Links table (suc k) b bs
+          last : (k : ℕ) → chainStep Last b k (λ n. chain table left n) ≡ some bs → Links table (suc k) b bs
           last zero f = subst (λ (l : List ℕ). Links table 1 b l) (Option·some-injective _ _ f) (ends q)
           last (suc k) f =
               let e : eqb (suc k) 0 ≡ false = ne-eqb (suc k) 0 (λ d. omega arith) in
@@ -92,12 +98,6 @@ module _ (table : List ℕ) where
   links-chain (goes q l) = rw (q, links-chain l)
 
   -- ---- the same by places in the list
-
-  one-more : (k : ℕ) → suc k + 1 ≡ suc (k + 1)
-  one-more k = omega arith
-
-  one-less : (k : ℕ) → 1 ≤ k → suc k - 1 ≡ suc (k - 1)
-  one-less k h = omega arith
 
   links-are : {left b : ℕ} {bs : List ℕ} → Links table left b bs → IsChain table left b bs
   unfolding linkAt

@@ -2,7 +2,7 @@
 -- blocks they make the 200 user blocks. Assumes nothing.
 use Prim.Native.Nat.{ℕ, zero, suc, _+_, _≤_, _<_}
 use mathlib.Core.Path.{_≡_, refl, sym, ap, subst, _∙_}
-use mathlib.Core.Bool.{Bool, true, false, not, _&&_, true≢false}
+use mathlib.Core.Bool.{Bool, true, false, not, true≢false}
 use mathlib.Core.List.{List, [], _∷_}
 use mathlib.Core.Option.{some}
 use mathlib.Core.Logic.{_≢_}
@@ -15,24 +15,30 @@ use Rattle.words.specs.Lists.{keep, anyOf, has, Distinct, numbersFrom}
 use Rattle.words.proofs.Bools.{or-false-left, or-false-right, and-true-left, and-true-right}
 use Rattle.words.proofs.ListLaws.{All}
 use Rattle.words.proofs.Distinct.{one, pigeonhole, count-has}
-use Rattle.words.proofs.JoinLaws.{all-append, any-concat, none-has, all-has, distinct-append, none-range, count-classes, count-concat}
+use Rattle.words.proofs.JoinLaws.{all-append, all-has, distinct-append, none-range, count-classes, count-concat}
 use Rattle.card_model.specs.declared.Link.{Link}
 use Rattle.card_model.specs.declared.Link.the-variants.{Free, Damaged, Last, Next, Bad}
 use Rattle.card_model.specs.Layout.{tableOf, directoryOf}
 use Rattle.card_model.specs.Table.{linkAt, freeOrDamaged}
 use Rattle.card_model.specs.Entries.{firstBlock, size, isUsed, isGame}
-use Rattle.card_model.specs.Files.{chain, filesBefore, sharesBlock, rising, breaksGameRule, isOrphan, orphans}
-use Rattle.card_model.specs.Calls.{SoundCard}
-use Rattle.card_model.specs.Theorems.{NoRowRefuses, entryOn, fileOn, UsedEntry, SoundFile, isFree, isDamaged, countBlocks, fileBlocks}
-use Rattle.card_model.proofs.ChainLaws.{chain-length, chain-below, chain-distinct, chain-used, chain-head}
+use Rattle.card_model.specs.Files.{chain, chainOf, fileOf, filesBefore, sharesBlock, rising, breaksGameRule, isOrphan, orphans}
+use Rattle.card_model.specs.Sound.{SoundCard, NoRowRefuses, entryOn, fileOn, UsedEntry}
+use Rattle.card_model.specs.Theorems.{SoundFile, IsChain, isFree, isDamaged, countBlocks, blocksInFiles}
+use Rattle.card_model.proofs.ChainLaws.{chain-length, chain-below, chain-distinct, chain-used, chain-head, chain-exactly}
 use Rattle.card_model.proofs.EntryLaws.{right-entry, file-chain, no-file, files-snoc}
 use Rattle.card_model.proofs.SoundLaws.{sound-rows}
+use Rattle.card_model.proofs.TestLaws.{block-is-shared}
 
 rising-numbers : (b : ℕ) (bs : List ℕ) → rising (b ∷ bs) ≡ true → b ∷ bs ≡ numbersFrom b (suc (length bs))
 rising-numbers b [] e = refl
 rising-numbers b (n ∷ bs) e =
     let d : n ≡ suc b = omega (arith, eqb-true n (b + 1) (and-true-left _ _ e)) in
     ap (λ (l : List ℕ). b ∷ l) (rising-numbers n bs (and-true-right (eqb n (b + 1)) _ e) ∙ ap (λ (k : ℕ). numbersFrom k (suc (length bs))) d)
+
+pub file-exactly : (card : List ℕ) (i : ℕ) (blocks : List ℕ) → UsedEntry card i
+    → IsChain (tableOf card) (size (entryOn card i)) (firstBlock (entryOn card i)) blocks → fileOn card i ≡ blocks
+unfolding fileOf chainOf
+file-exactly card i blocks u c = rw (u .is-used, chain-exactly _ _ _ blocks .1 c)
 
 module _ (card : List ℕ) (sound : SoundCard card) where
   rows : NoRowRefuses card
@@ -111,39 +117,39 @@ module _ (card : List ℕ) (sound : SoundCard card) where
           omega (arith, f .has-size, f .not-empty)
       go i h false u = omega arith
 
-  pub all-blocks : orphans table directory + fileBlocks card + countBlocks card isFree + countBlocks card isDamaged ≡ 200
+  pub all-blocks : orphans table directory + blocksInFiles card + countBlocks card isFree + countBlocks card isDamaged ≡ 200
   unfolding orphans isOrphan
   all-blocks =
       ap (λ (n : ℕ). orphans table directory + n + countBlocks card isFree + countBlocks card isDamaged)
       (sym (count-has 200 (files 208) all-distinct all-below))
       ∙ count-classes (isOrphan table directory) (λ b. has b (files 208))
       (λ b. isFree (linkAt table b)) (λ b. isDamaged (linkAt table b)) 0 200
-      (λ b h k. go (linkAt table b) (has b (files 208)) (all-has _ (files 208) b all-used))
+      (λ b h k. go b (linkAt table b) refl (has b (files 208)) refl)
     where
-      go : (l : Link) (t : Bool) → (t ≡ true → freeOrDamaged l ≡ false)
-          → one (not (freeOrDamaged l) && not t) + one t + one (isFree l) + one (isDamaged l) ≡ 1
-      go Free true h = absurd (true≢false (h refl))
-      go Free false h = refl
-      go Damaged true h = absurd (true≢false (h refl))
-      go Damaged false h = refl
-      go Last true h = refl
-      go Last false h = refl
-      go (Next n) true h = refl
-      go (Next n) false h = refl
-      go Bad true h = refl
-      go Bad false h = refl
+      not-in-file : (b : ℕ) → has b (files 208) ≡ true → freeOrDamaged (linkAt table b) ≡ true → ⊥
+      not-in-file b f e = true≢false (sym e ∙ all-has _ (files 208) b all-used f)
+
+      go : (b : ℕ) (l : Link) → linkAt table b ≡ l → (t : Bool) → has b (files 208) ≡ t
+          → one (isOrphan table directory b) + one (has b (files 208)) + one (isFree (linkAt table b)) + one (isDamaged (linkAt table b)) ≡ 1
+      go b Free e true f = absurd (not-in-file b f (ap freeOrDamaged e))
+      go b Free e false f = rw (e, f)
+      go b Damaged e true f = absurd (not-in-file b f (ap freeOrDamaged e))
+      go b Damaged e false f = rw (e, f)
+      go b Last e true f = rw (e, f)
+      go b Last e false f = rw (e, f)
+      go b (Next n) e true f = rw (e, f)
+      go b (Next n) e false f = rw (e, f)
+      go b Bad e true f = rw (e, f)
+      go b Bad e false f = rw (e, f)
 
   -- ---- two files
 
   apart-later : (i j b : ℕ) → i < j → j < 208 → has b (fileOn card i) ≡ true → has b (fileOn card j) ≡ false
-  unfolding filesBefore sharesBlock
-  apart-later i j b h k e = none-has (λ b. has b (files j)) (fileOn card j) b (rows .apart j k) (go (has b (files j)) refl)
+  apart-later i j b h k e = go (has b (fileOn card j)) refl
     where
-      go : (t : Bool) → has b (files j) ≡ t → t ≡ true
-      go true f = refl
-      go false f =
-          let n = sym (any-concat (λ m. eqb m b) (λ i. fileOn card i) (numbersFrom 0 j)) ∙ f in
-          sym (none-range (λ i. has b (fileOn card i)) 0 j n i (omega arith) (omega arith)) ∙ e
+      go : (t : Bool) → has b (fileOn card j) ≡ t → t ≡ false
+      go false f = refl
+      go true f = sym (block-is-shared card j i b h f e) ∙ rows .apart j k
 
   pub files-apart : (i j b : ℕ) → UsedEntry card i → UsedEntry card j → i ≢ j → has b (fileOn card i) ≡ true → has b (fileOn card j) ≡ false
   files-apart i j b u v n e = go (ltb i j) refl (has b (fileOn card j)) refl

@@ -1,7 +1,9 @@
 pub mod ChainLaws
 pub mod EntryLaws
 pub mod SoundLaws
+pub mod TestLaws
 pub mod RefusalLaws
+pub mod CallLaws
 pub mod FileLaws
 pub mod ReadLaws
 pub mod WitnessLaws

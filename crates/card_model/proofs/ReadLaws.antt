@@ -5,7 +5,7 @@ use mathlib.Core.Path.{_≡_, refl, sym, ap, _∙_}
 use mathlib.Core.Bool.{Bool, true, false, _&&_, or-true}
 use mathlib.Core.Logic.{_≢_, _⊎_, ⊎-elim}
 use mathlib.Core.List.{List, [], map, append-nil}
-use mathlib.Core.Option.{some}
+use mathlib.Core.Option.{none, some}
 use native.Mathlib.Omega.{arith}
 use lib.ListN.{length, getD, take, drop, length-map, length-drop, List·getD-map}
 use lib.Seq.{length-take-le}
@@ -22,8 +22,8 @@ use Rattle.verdicts.specs.Rows.{done, refusedAt}
 use Rattle.card_model.specs.Layout.{cardLength, blockAt, tableOf, directoryOf}
 use Rattle.card_model.specs.Entries.{firstBlock, nameOf, size, isUsed, isNamed, nameTaken}
 use Rattle.card_model.specs.Files.{chain}
-use Rattle.card_model.specs.Calls.{firstUsed, listedEntry, notListed, listOf, named, readRows, readVerdict, fileBlock, readBuffer, SoundCard}
-use Rattle.card_model.specs.Theorems.{NoRowRefuses, UsedEntry, entryOn, fileOn, fileBytes}
+use Rattle.card_model.specs.Calls.{firstUsed, listedEntry, notListed, listOf, entryNamed, readRows, readVerdict, fileBlock, readBuffer}
+use Rattle.card_model.specs.Sound.{SoundCard, NoRowRefuses, entryOn, fileOn, fileBytes, UsedEntry}
 use Rattle.card_model.proofs.EntryLaws.{entry-length, right-entry, file-chain}
 use Rattle.card_model.proofs.SoundLaws.{sound-rows}
 use Rattle.card_model.proofs.ChainLaws.{chain-length, chain-below}
@@ -34,15 +34,16 @@ pub lists : (card : List ℕ) → SoundCard card → (start i : ℕ) → UsedEnt
     → ((j : ℕ) → start ≤ j → j < i → isUsed (entryOn card j) ≡ false) → listOf card start ≡ listedEntry i (entryOn card i)
 unfolding listOf firstUsed
 lists card s start i u h f =
-    let e = lowest-is (λ j. isUsed (entryOn card j)) start (208 - start) i
-    (record { low = h; high = omega (arith, u .in-directory); passes = u .is-used; none-below = f }) in
+    let e : firstUsed (directoryOf card) start ≡ some i =
+    lowest-is _ start (208 - start) i (record { low = h; high = omega (arith, u .in-directory); passes = u .is-used; none-below = f }) in
     rw (s, e)
 
 pub lists-none : (card : List ℕ) → SoundCard card → (start : ℕ)
     → ((j : ℕ) → start ≤ j → j < 208 → isUsed (entryOn card j) ≡ false) → listOf card start ≡ notListed (refusedAt 31 Whole)
 unfolding listOf firstUsed
 lists-none card s start f =
-    rw (s, lowest-nothing (λ j. isUsed (entryOn card j)) start (208 - start) (λ j a b. f j a (omega arith)))
+    let e : firstUsed (directoryOf card) start ≡ none = lowest-nothing _ start (208 - start) (λ j a b. f j a (omega arith)) in
+    rw (s, e)
 
 -- ---- blocks and names
 
@@ -63,8 +64,8 @@ module _ (card : List ℕ) (s : SoundCard card) (i : ℕ) (u : UsedEntry card i)
   abbrev name : List ℕ
   name = nameOf (entryOn card i)
 
-  pub found-by-name : named (directoryOf card) (nameOf (entryOn card i)) ≡ some i
-  unfolding named isNamed nameTaken
+  pub found-by-name : entryNamed (directoryOf card) (nameOf (entryOn card i)) ≡ some i
+  unfolding entryNamed isNamed nameTaken
   found-by-name =
       lowest-is (λ j. isNamed name (entryOn card j)) 0 208 i (record {
         low = omega arith;
@@ -130,7 +131,7 @@ module _ (card : List ℕ) (s : SoundCard card) where
 
   pub refused-31 : (name : List ℕ) (index : ℕ) (buffer : List ℕ) → length name ≡ 12 → length buffer ≡ 512
       → ((i : ℕ) → UsedEntry card i → nameOf (entryOn card i) ≢ name) → readVerdict card name index buffer ≡ refusedAt 31 Whole
-  unfolding readVerdict readRows named isNamed
+  unfolding readVerdict readRows entryNamed isNamed
   refused-31 name index buffer n l h =
       let e = lowest-nothing (λ i. isNamed name (entryOn card i)) 0 208 (λ i a b. other i (omega arith) (isUsed (entryOn card i)) refl) in
       rw (s, eq-eqb (length name) 12 n, eq-eqb (length buffer) 512 l, e)

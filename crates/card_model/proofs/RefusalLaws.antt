@@ -21,23 +21,11 @@ use Rattle.card_model.specs.Table.{magicRow, fieldsRow, wrongSystem, wro
 use Rattle.card_model.specs.Entries.{wrongEntry, nameTaken, entryRow, nameRow}
 use Rattle.card_model.specs.Files.{badChain, sharesBlock, breaksGameRule, chainRow, sharingRow, gameRow}
 use Rattle.card_model.specs.Calls.{lengthRow, tableRows, directoryRows, verdictOf}
-use Rattle.card_model.specs.Theorems.{
-  Wrong,
-  row-20,
-  row-21,
-  row-22,
-  row-23,
-  row-24,
-  row-25,
-  row-26,
-  row-27,
-  row-28,
-  row-29,
-  row-30,
-  entryOn,
-  placeNumber,
-  Refused,
-}
+use Rattle.card_model.specs.Sound.{entryOn, UsedEntry}
+use Rattle.card_model.specs.Theorems.{Wrong, row-20, row-21, row-22, row-23, row-24, row-25, row-26, row-27, row-28, row-29, row-30}
+use Rattle.card_model.specs.Theorems.{placeNumber, Refused}
+use Rattle.card_model.proofs.TestLaws.{entry-tells, entry-is-wrong, chain-tells, chain-is-bad, sharing-tells, block-is-shared}
+use Rattle.card_model.proofs.TestLaws.{name-tells, name-is-taken, game-tells, game-is-wrong}
 
 -- Where one of the numbers from a up to e is wrong, the row refuses, and no later than there.
 over-fires : (n : ℕ) (place : ℕ → Place) (wrong : ℕ → Bool) (a e i : ℕ)
@@ -83,11 +71,15 @@ module _ (card : List ℕ) where
   placed (row-23 l h w) = (omega arith, omega arith, refl)
   placed (row-24 l h w) = (omega arith, omega arith, refl)
   placed (row-25 h w) = (omega arith, omega arith, refl)
-  placed (row-26 h w) = (omega arith, omega arith, refl)
-  placed (row-27 h w) = (omega arith, omega arith, refl)
-  placed (row-28 h w) = (omega arith, omega arith, refl)
-  placed (row-29 h w) = (omega arith, omega arith, refl)
-  placed (row-30 h w) = (omega arith, omega arith, refl)
+  placed (row-26 u w) = (omega arith, omega arith, refl)
+  placed (row-27 u n) = (omega arith, omega arith, refl)
+  placed (row-28 b h l i j) = (omega arith, omega arith, refl)
+  placed (row-29 u v l e) = (omega arith, omega arith, refl)
+  placed (row-30 h g w) = (omega arith, omega arith, refl)
+
+  fires-at : (n : ℕ) (wrong : ℕ → Bool) {i : ℕ} → i < 208 → wrong i ≡ true
+      → (rowOver n Entry (lowest wrong 0 208) .number ≡ n) × (placeNumber (rowOver n Entry (lowest wrong 0 208) .place) ≤ i)
+  fires-at n wrong {i} h w = over-fires n Entry wrong 0 208 i zero-le h w (λ j. refl)
 
   -- what is wrong, its row refuses, and no later than there
   fires : {n : ℕ} {p : Place} → Wrong card n p → (row n .number ≡ n) × (placeNumber (row n .place) ≤ placeNumber p)
@@ -99,11 +91,11 @@ module _ (card : List ℕ) where
   fires (row-23 l h d) = over-fires _ Block (wrongSystem table) _ _ _ l h (ap not (ne-eqb _ _ d)) (λ j. refl)
   fires (row-24 l h w) = over-fires _ Block (wrongHidden table) _ _ _ l h (ap not w) (λ j. refl)
   fires (row-25 h w) = over-fires _ Block (wrongUser table) _ _ _ zero-le h w (λ j. refl)
-  fires (row-26 h w) = over-fires _ Entry (λ i. wrongEntry (entryOn card i)) _ _ _ zero-le h w (λ j. refl)
-  fires (row-27 h w) = over-fires _ Entry (λ i. badChain table (entryOn card i)) _ _ _ zero-le h w (λ j. refl)
-  fires (row-28 h w) = over-fires _ Entry (sharesBlock table directory) _ _ _ zero-le h w (λ j. refl)
-  fires (row-29 h w) = over-fires _ Entry (nameTaken directory) _ _ _ zero-le h w (λ j. refl)
-  fires (row-30 h w) = over-fires _ Entry (breaksGameRule table directory) _ _ _ zero-le h w (λ j. refl)
+  fires (row-26 u w) = fires-at _ (λ i. wrongEntry (entryOn card i)) (u .in-directory) (entry-is-wrong _ (u .is-used) w)
+  fires (row-27 u n) = fires-at _ (λ i. badChain table (entryOn card i)) (u .in-directory) (chain-is-bad table _ (u .is-used) n)
+  fires (row-28 b h l i j) = fires-at _ (sharesBlock table directory) h (block-is-shared card _ _ b l i j)
+  fires (row-29 u v l e) = fires-at _ (nameTaken directory) (u .in-directory) (name-is-taken card _ _ (u .is-used) (v .is-used) l e)
+  fires (row-30 h g w) = fires-at _ (breaksGameRule table directory) h (game-is-wrong card _ g w)
 
   -- ---- rows one after the other
 
@@ -166,6 +158,34 @@ module _ (card : List ℕ) where
     lowest-place = λ p x. fires (subst (λ (k : ℕ). Wrong card k p) e x) .1;
   })
 
+  module _ (i : ℕ) (h : i < 208) where
+    wrong-entry : wrongEntry (entryOn card i) ≡ true → Wrong card 26 (Entry i)
+    wrong-entry e =
+        let t = entry-tells (entryOn card i) e in
+        row-26 (record { in-directory = h; is-used = t .0 }) (t .1)
+
+    bad-chain : badChain table (entryOn card i) ≡ true → Wrong card 27 (Entry i)
+    bad-chain e =
+        let t = chain-tells table (entryOn card i) e in
+        row-27 (record { in-directory = h; is-used = t .0 }) (t .1)
+
+    shared-block : sharesBlock table directory i ≡ true → Wrong card 28 (Entry i)
+    shared-block e =
+        let s = sharing-tells card i e in
+        row-28 (s .block) h (s .before) (s .here) (s .there)
+
+    taken-name : nameTaken directory i ≡ true → Wrong card 29 (Entry i)
+    taken-name e =
+        let t = name-tells card i e in
+        let s = t .1 in
+        let other : UsedEntry card (s .earlier) = record { in-directory = omega (arith, h, s .before); is-used = s .is-used } in
+        row-29 (record { in-directory = h; is-used = t .0 }) other (s .before) (s .same)
+
+    wrong-game : breaksGameRule table directory i ≡ true → Wrong card 30 (Entry i)
+    wrong-game e =
+        let t = game-tells card i e in
+        row-30 h (t .0) (t .1)
+
   all-rows : Judged 20 31 (verdictOf card)
   unfolding verdictOf tableRows directoryRows lengthRow magicRow fieldsRow systemRow hiddenRow userRow entryRow chainRow sharingRow nameRow gameRow
       wrongSystem wrongHidden wrongUser
@@ -176,11 +196,11 @@ module _ (card : List ℕ) where
       let v23 = judged 23 (over-tells _ _ _ _ _ (λ b l h t. row-23 l h (eqb-false _ _ (not-true _ t)))) in
       let v24 = judged 24 (over-tells _ _ _ _ _ (λ b l h t. row-24 l h (not-true _ t))) in
       let v25 = judged 25 (over-tells _ _ _ 0 _ (λ i l. row-25)) in
-      let v26 = judged 26 (over-tells _ _ _ 0 _ (λ i l. row-26)) in
-      let v27 = judged 27 (over-tells _ _ _ 0 _ (λ i l. row-27)) in
-      let v28 = judged 28 (over-tells _ _ _ 0 _ (λ i l. row-28)) in
-      let v29 = judged 29 (over-tells _ _ _ 0 _ (λ i l. row-29)) in
-      let v30 = judged 30 (over-tells _ _ _ 0 _ (λ i l. row-30)) in
+      let v26 = judged 26 (over-tells _ _ _ 0 _ (λ i l. wrong-entry i)) in
+      let v27 = judged 27 (over-tells _ _ _ 0 _ (λ i l. bad-chain i)) in
+      let v28 = judged 28 (over-tells _ _ _ 0 _ (λ i l. shared-block i)) in
+      let v29 = judged 29 (over-tells _ _ _ 0 _ (λ i l. taken-name i)) in
+      let v30 = judged 30 (over-tells _ _ _ 0 _ (λ i l. wrong-game i)) in
       unless-judged v20 (unless-judged
       (unless-judged v21 (unless-judged v22 (unless-judged v23 (unless-judged v24 v25))))
       (unless-judged v26 (unless-judged v27 (unless-judged v28 (unless-judged v29 v30)))))

@@ -19,8 +19,8 @@ use Rattle.card_model.specs.Layout.{rootOf, tableOf, directoryOf}
 use Rattle.card_model.specs.Table.{magicRow, fieldsRow, wrongSystem, wrongHidden, wrongUser, systemRow, hiddenRow, userRow}
 use Rattle.card_model.specs.Entries.{entryRow, nameRow}
 use Rattle.card_model.specs.Files.{chainRow, sharingRow, gameRow}
-use Rattle.card_model.specs.Calls.{lengthRow, tableRows, directoryRows, verdictOf, SoundCard}
-use Rattle.card_model.specs.Theorems.{NoRowRefuses}
+use Rattle.card_model.specs.Calls.{lengthRow, tableRows, directoryRows, verdictOf}
+use Rattle.card_model.specs.Sound.{SoundCard, NoRowRefuses}
 
 -- ---- rows that accept
 

@@ -2,7 +2,9 @@
 use Rattle.card_model.specs.Theorems.{Theorems}
 use Rattle.card_model.proofs.SoundLaws as sound
 use Rattle.card_model.proofs.RefusalLaws as refusals
+use Rattle.card_model.proofs.CallLaws as calls
 use Rattle.card_model.proofs.ChainLaws as chains
+use Rattle.card_model.proofs.EntryLaws as entries
 use Rattle.card_model.proofs.FileLaws as files
 use Rattle.card_model.proofs.ReadLaws as reads
 use Rattle.card_model.proofs.WitnessLaws as witnesses
@@ -12,7 +14,11 @@ theorems = record {
   sound-exactly = sound.sound-exactly;
   accepted-sound = sound.accepted-sound;
   refused-exactly = refusals.refused-exactly;
+  refused-everywhere = calls.refused-everywhere;
+  checks = calls.checks;
   chain-exactly = chains.chain-exactly;
+  file-exactly = files.file-exactly;
+  no-file = λ card i. entries.no-file _ _;
   sound-file = files.sound-file;
   files-apart = files.files-apart;
   at-most-200 = files.at-most-200;

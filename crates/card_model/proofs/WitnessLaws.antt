@@ -22,9 +22,9 @@ use Rattle.card_model.specs.Entries.{kind, flag, firstBlock, nameOf, siz
 use Rattle.card_model.specs.Entries.{wrongKind, wrongFlag, wrongFirst, wrongSize, wrongOffset, wrongEntry, entryRow, isNamed, nameTaken, nameRow}
 use Rattle.card_model.specs.Files.{chainStep, chain, chainOf, badChain, chainRow, fileOf, filesBefore}
 use Rattle.card_model.specs.Files.{sharesBlock, sharingRow, breaksGameRule, gameRow, isOrphan, orphans}
-use Rattle.card_model.specs.Calls.{lengthRow, tableRows, directoryRows, verdictOf, SoundCard}
+use Rattle.card_model.specs.Calls.{lengthRow, tableRows, directoryRows, verdictOf}
 use Rattle.card_model.specs.Examples.{rootBlock, systemTable, bytesBefore, cardOf, unusedEntry, emptyCard, entryBytes, someEntries, someUsers, filesCard}
-use Rattle.card_model.specs.Theorems.{entryOn}
+use Rattle.card_model.specs.Sound.{SoundCard, entryOn}
 
 -- ---- the parts of a card of these entries and users
 

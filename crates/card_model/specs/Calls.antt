@@ -2,7 +2,6 @@
 -- layout".
 -- Assumes nothing.
 use Prim.Native.Nat.{ℕ, _-_}
-use mathlib.Core.Path.{_≡_}
 use mathlib.Core.Bool.{not, cond, _||_}
 use mathlib.Core.List.{List}
 use mathlib.Core.Option.{Option, none, some}
@@ -105,8 +104,8 @@ listOf card start =
 -- ---- read
 
 -- "A file block is found by name and index": the entry of that name.
-unfoldable pub named : List (List ℕ) → List ℕ → Option ℕ
-named directory name = lowest (λ i. isNamed name (entryAt directory i)) 0 208
+unfoldable pub entryNamed : List (List ℕ) → List ℕ → Option ℕ
+entryNamed directory name = lowest (λ i. isNamed name (entryAt directory i)) 0 208
 
 -- 31: "no file of that name"; 32: "block index not below the file's size"
 abbrev pub indexRow : List (List ℕ) → ℕ → Option ℕ → Verdict
@@ -117,7 +116,7 @@ indexRow directory index (some i) = rowAt 32 Whole (leb (entry.size (entryAt dir
 unfoldable pub readRows : List (List ℕ) → List ℕ → ℕ → List ℕ → Verdict
 readRows directory name index buffer =
     unlessRefused (rowAt 33 Whole (not (eqb (length name) 12) || not (eqb (length buffer) 512)))
-    (indexRow directory index (named directory name))
+    (indexRow directory index (entryNamed directory name))
 
 unfoldable pub readVerdict : List ℕ → List ℕ → ℕ → List ℕ → Verdict
 readVerdict card name index buffer = unlessRefused (verdictOf card) (readRows (directoryOf card) name index buffer)
@@ -126,16 +125,14 @@ readVerdict card name index buffer = unlessRefused (verdictOf card) (readRows (d
 unfoldable pub fileBlock : List ℕ → ℕ → ℕ → ℕ
 fileBlock card i index = getD (fileOf (tableOf card) (entryAt (directoryOf card) i)) index 0
 
+-- "its 512 bytes fill the block buffer"
 abbrev pub blockRead : List ℕ → ℕ → Option ℕ → List ℕ → List ℕ
 blockRead card index none buffer = buffer
 blockRead card index (some i) buffer = blockAt card (fileBlock card i index)
 
--- "its 512 bytes fill the block buffer"; "A refusal changes no byte of any buffer."
+-- "A refusal changes no byte of any buffer": what a read of this verdict leaves, where its name found this entry.
+abbrev pub leftBy : Verdict → List ℕ → ℕ → Option ℕ → List ℕ → List ℕ
+leftBy v card index found buffer = cond (accepted v) (blockRead card index found buffer) buffer
+
 unfoldable pub readBuffer : List ℕ → List ℕ → ℕ → List ℕ → List ℕ
-readBuffer card name index buffer =
-    cond (accepted (readVerdict card name index buffer)) (blockRead card index (named (directoryOf card) name) buffer) buffer
-
--- ---- a card that passes the check
-
-abbrev pub SoundCard : List ℕ → Type 0
-SoundCard card = verdictOf card ≡ done
+readBuffer card name index buffer = leftBy (readVerdict card name index buffer) card index (entryNamed (directoryOf card) name) buffer

@@ -4,4 +4,5 @@ pub mod Entries
 pub mod Files
 pub mod Calls
 pub mod Examples
+pub mod Sound
 pub mod Theorems

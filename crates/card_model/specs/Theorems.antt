@@ -14,43 +14,14 @@ use Rattle.verdicts.specs.declared.Verdict.{Verdict}
 use Rattle.verdicts.specs.Rows.{done, refusedAt}
 use Rattle.card_model.specs.declared.Link.{Link}
 use Rattle.card_model.specs.declared.Link.the-variants.{Free, Damaged, Last, Next, Bad}
-use Rattle.card_model.specs.Layout.{cardLength, blockAt, rootOf, tableOf, directoryOf}
+use Rattle.card_model.specs.Layout.{cardLength, rootOf, tableOf, directoryOf}
 use Rattle.card_model.specs.Table.{rightFields, fatEntry, linkAt, systemEntry, freeOrDamaged, isBad}
-use Rattle.card_model.specs.Entries.{nameOf, size, isUsed, isData, isGame, wrongEntry, entryAt, nameTaken}
-use Rattle.card_model.specs.Files.{chain, badChain, fileOf, filesBefore, sharesBlock, breaksGameRule, orphans}
-use Rattle.card_model.specs.Calls.{verdictOf, listedEntry, notListed, listOf, named, readVerdict, readBuffer, SoundCard}
+use Rattle.card_model.specs.Entries.{kind, flag, firstBlock, nameOf, size, headerOffset, isUsed, isData, isGame}
+use Rattle.card_model.specs.Files.{chain, filesBefore}
+use Rattle.card_model.specs.Files as files
+use Rattle.card_model.specs.Calls.{verdictOf, checkOf, listedEntry, notListed, listOf, entryNamed, readVerdict, readBuffer}
 use Rattle.card_model.specs.Examples.{emptyCard, filesCard}
-
--- Every fact of rows 20 to 30.
-pub record NoRowRefuses (card : List ℕ) : Type 0 where
-  pub long : length card ≡ cardLength
-  pub magic : take 16 (rootOf card) ≡ replicate 16 0x55
-  pub fields : rightFields (rootOf card) ≡ true
-  pub system : (b : ℕ) → 241 ≤ b → b < 256 → fatEntry (tableOf card) b ≡ systemEntry b
-  pub hidden : (b : ℕ) → 200 ≤ b → b < 241 → freeOrDamaged (linkAt (tableOf card) b) ≡ true
-  pub user : (b : ℕ) → b < 200 → isBad (linkAt (tableOf card) b) ≡ false
-  pub entries : (i : ℕ) → i < 208 → wrongEntry (entryAt (directoryOf card) i) ≡ false
-  pub chains : (i : ℕ) → i < 208 → badChain (tableOf card) (entryAt (directoryOf card) i) ≡ false
-  pub apart : (i : ℕ) → i < 208 → sharesBlock (tableOf card) (directoryOf card) i ≡ false
-  pub names : (i : ℕ) → i < 208 → nameTaken (directoryOf card) i ≡ false
-  pub games : (i : ℕ) → i < 208 → breaksGameRule (tableOf card) (directoryOf card) i ≡ false
-
--- ---- a card, its entry i and that entry's file
-
-abbrev pub entryOn : List ℕ → ℕ → List ℕ
-entryOn card i = entryAt (directoryOf card) i
-
-abbrev pub fileOn : List ℕ → ℕ → List ℕ
-fileOn card i = fileOf (tableOf card) (entryOn card i)
-
--- The bytes of the file: those of its blocks, in order.
-unfoldable pub fileBytes : List ℕ → ℕ → List ℕ
-fileBytes card i = concat (map (blockAt card) (fileOn card i))
-
--- Entry i is in the directory and used.
-pub record UsedEntry (card : List ℕ) (i : ℕ) : Type 0 where
-  pub in-directory : i < 208
-  pub is-used : isUsed (entryOn card i) ≡ true
+use Rattle.card_model.specs.Sound.{SoundCard, NoRowRefuses, entryOn, fileOn, fileBytes, UsedEntry}
 
 -- "each chain has exactly its entry's size and stays in 0..199", and repeats no block.
 pub record SoundFile (card : List ℕ) (i : ℕ) : Type 0 where
@@ -78,10 +49,42 @@ abbrev pub countBlocks : List ℕ → (Link → Bool) → ℕ
 countBlocks card class = length (keep (λ b. class (linkAt (tableOf card) b)) (numbersFrom 0 200))
 
 -- How many blocks the files have together.
-abbrev pub fileBlocks : List ℕ → ℕ
-fileBlocks card = length (filesBefore (tableOf card) (directoryOf card) 208)
+abbrev pub blocksInFiles : List ℕ → ℕ
+blocksInFiles card = length (filesBefore (tableOf card) (directoryOf card) 208)
 
 -- ---- what a refusal tells
+
+-- What makes a used entry bad.
+pub data WrongFields (entry : List ℕ) : Type 0 where
+  -- "type is 33 (data) or CC (game)"
+  wrong-type : kind entry ≢ 0x33 → kind entry ≢ 0xCC → WrongFields entry
+  -- "copy flag 00 or FF"
+  wrong-flag : flag entry ≢ 0x00 → flag entry ≢ 0xFF → WrongFields entry
+  -- "first block (0x02) below 200"
+  wrong-first : 200 ≤ firstBlock entry → WrongFields entry
+  -- "size (0x18) 1..200"
+  no-block : size entry < 1 → WrongFields entry
+  too-many : 200 < size entry → WrongFields entry
+  -- "for data, header offset (0x1a) below the size"
+  wrong-offset : isData entry ≡ true → size entry ≤ headerOffset entry → WrongFields entry
+
+-- The blocks are a chain from b with so many left: "The first size-1 entries each name a block in 0..199 and the last one is
+-- FFFA".
+pub record IsChain (table : List ℕ) (left b : ℕ) (blocks : List ℕ) : Type 0 where
+  pub long : length blocks ≡ left
+  pub not-empty : 1 ≤ left
+  pub first : getD blocks 0 0 ≡ b
+  pub names : (k : ℕ) → k < left - 1 → fatEntry table (getD blocks k 0) ≡ getD blocks (k + 1) 0
+  pub in-user : (k : ℕ) → k < left - 1 → fatEntry table (getD blocks k 0) < 200
+  pub last : fatEntry table (getD blocks (left - 1) 0) ≡ 0xFFFA
+
+-- What breaks the rule of a game, entry i: "no earlier entry is a game, first block 0, every next block one higher, size at
+-- most 128".
+pub data WrongGame (card : List ℕ) (i : ℕ) : Type 0 where
+  second-game : {j : ℕ} → j < i → isGame (entryOn card j) ≡ true → WrongGame card i
+  not-from-0 : firstBlock (entryOn card i) ≢ 0 → WrongGame card i
+  not-rising : (k : ℕ) → k + 1 < length (fileOn card i) → getD (fileOn card i) (k + 1) 0 ≢ getD (fileOn card i) k 0 + 1 → WrongGame card i
+  too-long : 128 < size (entryOn card i) → WrongGame card i
 
 -- Row n of the table of numbers finds this place wrong. "A card refusal also names its place: the whole card (20, 31 to 33), a
 -- block (21 and 22: block 255; 23 to 25), or a directory entry (26 to 30)."
@@ -92,11 +95,15 @@ pub data Wrong (card : List ℕ) : ℕ → Place → Type 0 where
   row-23 : {b : ℕ} → 241 ≤ b → b < 256 → fatEntry (tableOf card) b ≢ systemEntry b → Wrong card 23 (Block b)
   row-24 : {b : ℕ} → 200 ≤ b → b < 241 → freeOrDamaged (linkAt (tableOf card) b) ≡ false → Wrong card 24 (Block b)
   row-25 : {b : ℕ} → b < 200 → isBad (linkAt (tableOf card) b) ≡ true → Wrong card 25 (Block b)
-  row-26 : {i : ℕ} → i < 208 → wrongEntry (entryOn card i) ≡ true → Wrong card 26 (Entry i)
-  row-27 : {i : ℕ} → i < 208 → badChain (tableOf card) (entryOn card i) ≡ true → Wrong card 27 (Entry i)
-  row-28 : {i : ℕ} → i < 208 → sharesBlock (tableOf card) (directoryOf card) i ≡ true → Wrong card 28 (Entry i)
-  row-29 : {i : ℕ} → i < 208 → nameTaken (directoryOf card) i ≡ true → Wrong card 29 (Entry i)
-  row-30 : {i : ℕ} → i < 208 → breaksGameRule (tableOf card) (directoryOf card) i ≡ true → Wrong card 30 (Entry i)
+  row-26 : {i : ℕ} → UsedEntry card i → WrongFields (entryOn card i) → Wrong card 26 (Entry i)
+  -- no blocks at all are its chain
+  row-27 : {i : ℕ} → UsedEntry card i
+      → ((blocks : List ℕ) → IsChain (tableOf card) (size (entryOn card i)) (firstBlock (entryOn card i)) blocks → ⊥) → Wrong card 27 (Entry i)
+  -- "a block also in an earlier entry's file"
+  row-28 : {i j : ℕ} (b : ℕ) → i < 208 → j < i → has b (fileOn card i) ≡ true → has b (fileOn card j) ≡ true → Wrong card 28 (Entry i)
+  -- "name of an earlier used entry"
+  row-29 : {i j : ℕ} → UsedEntry card i → UsedEntry card j → j < i → nameOf (entryOn card i) ≡ nameOf (entryOn card j) → Wrong card 29 (Entry i)
+  row-30 : {i : ℕ} → i < 208 → isGame (entryOn card i) ≡ true → WrongGame card i → Wrong card 30 (Entry i)
 
 -- The number of the block or of the entry.
 abbrev pub placeNumber : Place → ℕ
@@ -112,17 +119,12 @@ pub record Refused (card : List ℕ) (v : Verdict) : Type 0 where
   -- "inside one, lowest block or lowest entry first"
   pub lowest-place : (p : Place) → Wrong card (v .number) p → placeNumber (v .place) ≤ placeNumber p
 
--- ---- what a chain is, without the walk
-
--- The blocks are a chain from b with so many left: "The first size-1 entries each name a block in 0..199 and the last one is
--- FFFA".
-pub record IsChain (table : List ℕ) (left b : ℕ) (blocks : List ℕ) : Type 0 where
-  pub long : length blocks ≡ left
-  pub not-empty : 1 ≤ left
-  pub first : getD blocks 0 0 ≡ b
-  pub names : (k : ℕ) → k < left - 1 → fatEntry table (getD blocks k 0) ≡ getD blocks (k + 1) 0
-  pub in-user : (k : ℕ) → k < left - 1 → fatEntry table (getD blocks k 0) < 200
-  pub last : fatEntry table (getD blocks (left - 1) 0) ≡ 0xFFFA
+-- Every call gives this verdict and nothing beside it: no orphan and no entry. "A refusal changes no byte of any buffer."
+pub record RefusedCalls (card : List ℕ) (v : Verdict) : Type 0 where
+  pub checked : checkOf card ≡ record { verdict = v; orphans = 0 }
+  pub listed : (start : ℕ) → listOf card start ≡ notListed v
+  pub read : (name : List ℕ) (index : ℕ) (buffer : List ℕ) → readVerdict card name index buffer ≡ v
+  pub unread : (name : List ℕ) (index : ℕ) (buffer : List ℕ) → readBuffer card name index buffer ≡ buffer
 
 pub record Theorems : Type 0 where
   -- the check is passed exactly when no row refuses
@@ -131,8 +133,16 @@ pub record Theorems : Type 0 where
   pub accepted-sound : (card : List ℕ) → verdictOf card .number ≡ 0 → SoundCard card
   -- a card is refused exactly with the first thing that is wrong
   pub refused-exactly : (card : List ℕ) (v : Verdict) → ((verdictOf card ≡ v) × (v .number ≢ 0)) ↔ Refused card v
+  -- what the calls answer on a refused card, and what a check does on a sound one
+  pub refused-everywhere : (card : List ℕ) (v : Verdict) → Refused card v → RefusedCalls card v
+  pub checks : (card : List ℕ) → SoundCard card
+      → checkOf card ≡ record { verdict = done; orphans = files.orphans (tableOf card) (directoryOf card) }
   -- the walk finds exactly the blocks that are a chain
   pub chain-exactly : (table : List ℕ) (left b : ℕ) (blocks : List ℕ) → (chain table left b ≡ some blocks) ↔ IsChain table left b blocks
+  -- a used entry's file is its chain, and an unused one has none
+  pub file-exactly : (card : List ℕ) (i : ℕ) (blocks : List ℕ) → UsedEntry card i
+      → IsChain (tableOf card) (size (entryOn card i)) (firstBlock (entryOn card i)) blocks → fileOn card i ≡ blocks
+  pub no-file : (card : List ℕ) (i : ℕ) → isUsed (entryOn card i) ≡ false → fileOn card i ≡ []
   pub sound-file : (card : List ℕ) → SoundCard card → (i : ℕ) → UsedEntry card i → SoundFile card i
   -- "chains of different used entries share no block"
   pub files-apart : (card : List ℕ) → SoundCard card → (i j b : ℕ) → UsedEntry card i → UsedEntry card j → i ≢ j
@@ -141,7 +151,7 @@ pub record Theorems : Type 0 where
   pub at-most-200 : (card : List ℕ) → SoundCard card → length (keep (λ i. isUsed (entryOn card i)) (numbersFrom 0 208)) ≤ 200
   -- "orphans plus file blocks plus free and damaged blocks make 200"
   pub all-blocks : (card : List ℕ) → SoundCard card
-      → orphans (tableOf card) (directoryOf card) + fileBlocks card + countBlocks card isFree + countBlocks card isDamaged ≡ 200
+      → files.orphans (tableOf card) (directoryOf card) + blocksInFiles card + countBlocks card isFree + countBlocks card isDamaged ≡ 200
   -- a game lies in blocks 0, 1, 2 and on, and there is at most one
   pub game-place : (card : List ℕ) → SoundCard card → (i : ℕ) → UsedEntry card i → isGame (entryOn card i) ≡ true
       → (fileOn card i ≡ numbersFrom 0 (size (entryOn card i))) × (size (entryOn card i) ≤ 128)
@@ -153,9 +163,10 @@ pub record Theorems : Type 0 where
   pub lists-none : (card : List ℕ) → SoundCard card → (start : ℕ)
       → ((j : ℕ) → start ≤ j → j < 208 → isUsed (entryOn card j) ≡ false) → listOf card start ≡ notListed (refusedAt 31 Whole)
   -- a name finds its own entry
-  pub found-by-name : (card : List ℕ) → SoundCard card → (i : ℕ) → UsedEntry card i → named (directoryOf card) (nameOf (entryOn card i)) ≡ some i
+  pub found-by-name : (card : List ℕ) → SoundCard card → (i : ℕ) → UsedEntry card i → entryNamed (directoryOf card) (nameOf (entryOn card i)) ≡ some i
   -- "a file's blocks read in order are its bytes"
-  pub reads-block : (card : List ℕ) → SoundCard card → (i index : ℕ) (buffer : List ℕ) → UsedEntry card i → index < size (entryOn card i) → length buffer ≡ 512
+  pub reads-block : (card : List ℕ) → SoundCard card → (i index : ℕ) (buffer : List ℕ) → UsedEntry card i → index < size (entryOn card i)
+      → length buffer ≡ 512
       → (readVerdict card (nameOf (entryOn card i)) index buffer ≡ done)
       × (readBuffer card (nameOf (entryOn card i)) index buffer ≡ take 512 (drop (index * 512) (fileBytes card i)))
   pub reads-file : (card : List ℕ) → SoundCard card → (i : ℕ) (buffer : List ℕ) → UsedEntry card i → length buffer ≡ 512
@@ -165,8 +176,8 @@ pub record Theorems : Type 0 where
       → readVerdict card name index buffer ≡ refusedAt 33 Whole
   pub refused-31 : (card : List ℕ) → SoundCard card → (name : List ℕ) (index : ℕ) (buffer : List ℕ) → length name ≡ 12 → length buffer ≡ 512
       → ((i : ℕ) → UsedEntry card i → nameOf (entryOn card i) ≢ name) → readVerdict card name index buffer ≡ refusedAt 31 Whole
-  pub refused-32 : (card : List ℕ) → SoundCard card → (i index : ℕ) (buffer : List ℕ) → UsedEntry card i → size (entryOn card i) ≤ index → length buffer ≡ 512
-      → readVerdict card (nameOf (entryOn card i)) index buffer ≡ refusedAt 32 Whole
+  pub refused-32 : (card : List ℕ) → SoundCard card → (i index : ℕ) (buffer : List ℕ) → UsedEntry card i → size (entryOn card i) ≤ index
+      → length buffer ≡ 512 → readVerdict card (nameOf (entryOn card i)) index buffer ≡ refusedAt 32 Whole
   pub refused-unchanged : (card name : List ℕ) (index : ℕ) (buffer : List ℕ) → readVerdict card name index buffer .number ≢ 0
       → readBuffer card name index buffer ≡ buffer
   -- not vacuous
@@ -175,4 +186,4 @@ pub record Theorems : Type 0 where
   pub files-sound : SoundCard filesCard
   pub files-kinds : (isData (entryOn filesCard 0) ≡ true) × (isGame (entryOn filesCard 1) ≡ true) × (isData (entryOn filesCard 3) ≡ true)
   pub files-are : (fileOn filesCard 0 ≡ 199 ∷ 198 ∷ []) × (fileOn filesCard 1 ≡ 0 ∷ 1 ∷ 2 ∷ []) × (fileOn filesCard 3 ≡ 190 ∷ [])
-  pub files-orphans : orphans (tableOf filesCard) (directoryOf filesCard) ≡ 1
+  pub files-orphans : files.orphans (tableOf filesCard) (directoryOf filesCard) ≡ 1

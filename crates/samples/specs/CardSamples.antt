@@ -4,7 +4,7 @@
 use Prim.Native.Nat.{ℕ}
 use mathlib.Core.List.{List, [], _∷_, _++_, map}
 use mathlib.Core.Option.{Option, none, some}
-use lib.ListN.{length, replicate, set}
+use lib.ListN.{length, take, replicate, set}
 use Rattle.words.specs.Lists.{concat, numbersFrom}
 use Rattle.verdicts.specs.declared.Place.{Place}
 use Rattle.verdicts.specs.declared.Place.the-variants.{Whole, Block, Entry}
@@ -13,12 +13,12 @@ use Rattle.verdicts.specs.Rows.{unlessRefused}
 use Rattle.card_model.specs.declared.Link.{Link}
 use Rattle.card_model.specs.declared.Link.the-variants.{Free, Damaged, Last, Next, Bad}
 use Rattle.card_model.specs.declared.Listing.{Listing}
-use Rattle.card_model.specs.Layout.{cardLength, fatPlace, tableOf, entryBlock, entryByte, directoryOf}
+use Rattle.card_model.specs.Layout.{cardLength, blockAt, fatPlace, tableOf, entryBlock, entryByte, entryPlace, directoryOf}
 use Rattle.card_model.specs.Table.{magicRow, fieldsRow, linkOf}
 use Rattle.card_model.specs.Entries.{entryRow}
 use Rattle.card_model.specs.Files.{chain, orEmpty, orphans}
 use Rattle.card_model.specs.Calls.{tableRows, directoryRows, checkOf, firstUsed, listedFrom, listOf, readRows, readVerdict, readBuffer}
-use Rattle.card_model.specs.Examples.{rootBlock, systemTable, entryBytes}
+use Rattle.card_model.specs.Examples.{rootBlock, systemTable, unusedEntry, entryBytes}
 use Rattle.samples.specs.Sample.{Sample, sampleOf}
 
 -- ---- answers as numbers
@@ -80,10 +80,7 @@ dataFile first letter = entryBytes 0x33 0x00 first letter 1 0
 abbrev pub gameFile : ℕ → ℕ → List ℕ
 gameFile first size = entryBytes 0xCC 0xFF first 0x47 size 1
 
--- Unused entries: of zeros, and with the name of file A.
-abbrev pub noEntry : List ℕ
-noEntry = replicate 32 0
-
+-- An unused entry with the name of file A.
 abbrev pub unusedA : List ℕ
 unusedA = entryBytes 0x00 0x00 199 0x41 1 0
 
@@ -105,8 +102,12 @@ abbrev pub otherA : List ℕ
 otherA = dataFile 198 0x41
 
 -- A directory with an entry of which each byte differs.
-abbrev pub someEntries : List (List ℕ)
-someEntries = noEntry ∷ (0x33 ∷ 0xFF ∷ numbersFrom 2 30) ∷ unusedA ∷ fileA ∷ []
+abbrev pub mixedEntries : List (List ℕ)
+mixedEntries = unusedEntry ∷ (0x33 ∷ 0xFF ∷ numbersFrom 2 30) ∷ unusedA ∷ fileA ∷ []
+
+-- 1600 numbers, each its own place.
+abbrev pub ownPlaces : List ℕ
+ownPlaces = numbersFrom 0 1600
 
 -- ---- what is asked of them
 
@@ -146,9 +147,12 @@ layoutSamples =
     -- (j) (k)
     sampleOf (entryBlock 16 ∷ entryByte 16 ∷ []) (252 ∷ 0 ∷ [])
     ∷ sampleOf (fatPlace 253 ∷ []) (130554 ∷ [])
-    -- the first entry, the last of block 253, and the last of all; the first and the last of the table
+    -- the first entry, the last of block 253, and the last of all; their image bytes; the first and the last of the table
     ∷ sampleOf (concat (map (λ i. entryBlock i ∷ entryByte i ∷ []) (0 ∷ 15 ∷ 207 ∷ []))) (253 ∷ 0 ∷ 253 ∷ 480 ∷ 241 ∷ 480 ∷ [])
+    ∷ sampleOf (map entryPlace (0 ∷ 15 ∷ 16 ∷ 207 ∷ [])) (129536 ∷ 130016 ∷ 129024 ∷ 123872 ∷ [])
     ∷ sampleOf (map fatPlace (0 ∷ 255 ∷ [])) (130048 ∷ 130558 ∷ [])
+    -- a block begins at its number times 512 and has 512 bytes, whatever follows
+    ∷ sampleOf (take 2 (blockAt ownPlaces 2) ++ length (blockAt ownPlaces 2) ∷ []) (1024 ∷ 1025 ∷ 512 ∷ [])
     -- the bytes of a card, the entries of its table and of its directory
     ∷ sampleOf (cardLength ∷ length (tableOf []) ∷ length (directoryOf []) ∷ []) (131072 ∷ 256 ∷ 208 ∷ [])
     -- the four classes of a table entry, and none of them
@@ -219,7 +223,7 @@ entrySamples =
     ∷ sampleOf (ofEntry (entryBytes 0x00 0x01 999 0x42 999 999)) (0 ∷ 0 ∷ 0 ∷ [])
     -- the lowest first, and the last entry of the directory
     ∷ sampleOf (verdictNumbers (entryRow (fileA ∷ set fileB 0 1 ∷ set fileC 0 2 ∷ []))) (26 ∷ 2 ∷ 1 ∷ [])
-    ∷ sampleOf (verdictNumbers (entryRow (replicate 207 noEntry ++ set fileA 1 1 ∷ []))) (26 ∷ 2 ∷ 207 ∷ [])
+    ∷ sampleOf (verdictNumbers (entryRow (replicate 207 unusedEntry ++ set fileA 1 1 ∷ []))) (26 ∷ 2 ∷ 207 ∷ [])
     ∷ []
 
 -- 27
@@ -249,11 +253,11 @@ unfoldable pub directorySamples : List Sample
 directorySamples =
     sampleOf (ofDirectory threeBlocks (fileA ∷ fileB ∷ fileC ∷ [])) (0 ∷ 0 ∷ 0 ∷ [])
     -- 28: the last block of an earlier file; the first one, twice; of an unused entry
-    ∷ sampleOf (ofDirectory twoBlocks (sizedA 2 ∷ noEntry ∷ fileB ∷ [])) (28 ∷ 2 ∷ 2 ∷ [])
+    ∷ sampleOf (ofDirectory twoBlocks (sizedA 2 ∷ unusedEntry ∷ fileB ∷ [])) (28 ∷ 2 ∷ 2 ∷ [])
     ∷ sampleOf (ofDirectory threeBlocks (fileA ∷ dataFile 199 0x42 ∷ dataFile 199 0x43 ∷ [])) (28 ∷ 2 ∷ 1 ∷ [])
     ∷ sampleOf (ofDirectory threeBlocks (unusedA ∷ fileA ∷ [])) (0 ∷ 0 ∷ 0 ∷ [])
     -- 29: twice; at another time; the first or the last letter differs; of unused entries
-    ∷ sampleOf (ofDirectory threeBlocks (fileA ∷ noEntry ∷ otherA ∷ dataFile 197 0x41 ∷ [])) (29 ∷ 2 ∷ 2 ∷ [])
+    ∷ sampleOf (ofDirectory threeBlocks (fileA ∷ unusedEntry ∷ otherA ∷ dataFile 197 0x41 ∷ [])) (29 ∷ 2 ∷ 2 ∷ [])
     ∷ sampleOf (ofDirectory threeBlocks (fileA ∷ set otherA 0x10 0 ∷ [])) (29 ∷ 2 ∷ 1 ∷ [])
     ∷ sampleOf (ofDirectory threeBlocks (fileA ∷ set otherA 0x04 0 ∷ [])) (0 ∷ 0 ∷ 0 ∷ [])
     ∷ sampleOf (ofDirectory threeBlocks (fileA ∷ set otherA 0x0F 0 ∷ [])) (0 ∷ 0 ∷ 0 ∷ [])
@@ -291,13 +295,13 @@ orphanSamples = sampleOf (map (orphans orphanTable) ((fileA ∷ fileB ∷ []) �
 -- The listing from 0, 1, 2 and 3; from further on; of the last entry.
 unfoldable pub listSamples : List Sample
 listSamples =
-    sampleOf (ofList someEntries 0) (0 ∷ 0 ∷ 0 ∷ 1 ∷ 51 ∷ 255 ∷ 770 ∷ 6424 ∷ 6938 ∷ numbersFrom 4 20)
-    ∷ sampleOf (ofList someEntries 1) (0 ∷ 0 ∷ 0 ∷ 1 ∷ 51 ∷ 255 ∷ 770 ∷ 6424 ∷ 6938 ∷ numbersFrom 4 20)
-    ∷ sampleOf (ofList someEntries 2) (0 ∷ 0 ∷ 0 ∷ 3 ∷ 51 ∷ 0 ∷ 199 ∷ 1 ∷ 0 ∷ replicate 12 65 ++ replicate 8 32)
-    ∷ sampleOf (ofList someEntries 3) (0 ∷ 0 ∷ 0 ∷ 3 ∷ 51 ∷ 0 ∷ 199 ∷ 1 ∷ 0 ∷ replicate 12 65 ++ replicate 8 32)
-    ∷ sampleOf (concat (map (ofListVerdict someEntries) (4 ∷ 207 ∷ 208 ∷ 1000 ∷ [])))
+    sampleOf (ofList mixedEntries 0) (0 ∷ 0 ∷ 0 ∷ 1 ∷ 51 ∷ 255 ∷ 770 ∷ 6424 ∷ 6938 ∷ numbersFrom 4 20)
+    ∷ sampleOf (ofList mixedEntries 1) (0 ∷ 0 ∷ 0 ∷ 1 ∷ 51 ∷ 255 ∷ 770 ∷ 6424 ∷ 6938 ∷ numbersFrom 4 20)
+    ∷ sampleOf (ofList mixedEntries 2) (0 ∷ 0 ∷ 0 ∷ 3 ∷ 51 ∷ 0 ∷ 199 ∷ 1 ∷ 0 ∷ replicate 12 65 ++ replicate 8 32)
+    ∷ sampleOf (ofList mixedEntries 3) (0 ∷ 0 ∷ 0 ∷ 3 ∷ 51 ∷ 0 ∷ 199 ∷ 1 ∷ 0 ∷ replicate 12 65 ++ replicate 8 32)
+    ∷ sampleOf (concat (map (ofListVerdict mixedEntries) (4 ∷ 207 ∷ 208 ∷ 1000 ∷ [])))
     (31 ∷ 0 ∷ 0 ∷ 31 ∷ 0 ∷ 0 ∷ 31 ∷ 0 ∷ 0 ∷ 31 ∷ 0 ∷ 0 ∷ [])
-    ∷ sampleOf (ofList (replicate 207 noEntry ++ fileA ∷ []) 207)
+    ∷ sampleOf (ofList (replicate 207 unusedEntry ++ fileA ∷ []) 207)
     (0 ∷ 0 ∷ 0 ∷ 207 ∷ 51 ∷ 0 ∷ 199 ∷ 1 ∷ 0 ∷ replicate 12 65 ++ replicate 8 32)
     ∷ []
 

@@ -12,7 +12,7 @@ use Rattle.flash_model.specs.Measures.{sizes, legalSize, blocks, bitmapBlocks, 
 use Rattle.flash_model.specs.Bitmap.{bitByte, bitPlace, bitWeight, bitOf, allocatedIn, outOfSequence, lowestFreeIn, cleared, firstCleared}
 use Rattle.flash_model.specs.UserBlock.{number, payload, rightChecksum, newBlock}
 use Rattle.flash_model.specs.Partition.{magic, headerNumber, version, bitmapOf, refusal}
-use Rattle.card_model.specs.Layout.{cardLength, rootOf, fatPlace, tableOf, entryBlock, entryByte, entryPlace, directoryOf}
+use Rattle.card_model.specs.Layout.{cardLength, blockAt, rootOf, fatPlace, tableOf, entryBlock, entryByte, entryPlace, directoryOf}
 use Rattle.card_model.specs.Table.{magicRow, rightFields, fieldsRow, fatEntry, linkOf, linkAt, systemEntry, wrongSystem}
 use Rattle.card_model.specs.Table.{wrongHidden, wrongUser, systemRow, hiddenRow, userRow}
 use Rattle.card_model.specs.Entries.{kind, flag, firstBlock, nameOf, timeOf, size, headerOffset, isUsed, isData, isGame}
@@ -21,8 +21,8 @@ use Rattle.card_model.specs.Entries.{isNamed, nameTaken, nameRow}
 use Rattle.card_model.specs.Files.{chainStep, chain, chainOf, badChain, chainRow, fileOf, filesBefore, sharesBlock}
 use Rattle.card_model.specs.Files.{sharingRow, breaksGameRule, gameRow, isOrphan, orphans}
 use Rattle.card_model.specs.Calls.{lengthRow, tableRows, directoryRows, verdictOf, checkOf, listedEntry, firstUsed, listOf}
-use Rattle.card_model.specs.Calls.{named, readRows, readVerdict, readBuffer}
-use Rattle.card_model.specs.Examples.{rootBlock, systemTable, entryBytes}
+use Rattle.card_model.specs.Calls.{entryNamed, readRows, readVerdict, readBuffer}
+use Rattle.card_model.specs.Examples.{rootBlock, systemTable, unusedEntry, entryBytes}
 use Rattle.samples.specs.Sample.{Sample, sampleOf, bit}
 use Rattle.samples.specs.CardSamples.{emptyTable, linked, twoBlocks, threeBlocks, orphanTable, layoutSamples}
 use Rattle.samples.specs.CardSamples.{rootSamples, tableSamples, entrySamples, chainSamples, directorySamples}
@@ -78,12 +78,12 @@ pub samples-hold : map (λ (s : Sample). s .defined) samples ≡ map (λ (s : Sa
 unfolding samples flashSamples unwritten page292 block292 checksumOf crcFrom takes shifts shift sizes legalSize blocks
     bitmapBlocks firstBitmap capacity topNumber bitByte bitPlace bitWeight bitOf allocatedIn outOfSequence lowestFreeIn
     cleared firstCleared number payload rightChecksum newBlock word wordBytes magic headerNumber version bitmapOf refusal
-    cardLength rootOf fatPlace tableOf entryBlock entryByte entryPlace directoryOf magicRow rightFields fieldsRow fatEntry
+    cardLength blockAt rootOf fatPlace tableOf entryBlock entryByte entryPlace directoryOf magicRow rightFields fieldsRow fatEntry
     linkOf linkAt systemEntry wrongSystem wrongHidden wrongUser systemRow hiddenRow userRow kind flag firstBlock nameOf
     timeOf size headerOffset isUsed isData isGame wrongKind wrongFlag wrongFirst wrongSize wrongOffset wrongEntry entryAt
     entryRow isNamed nameTaken nameRow chainStep chain chainOf badChain chainRow fileOf filesBefore sharesBlock sharingRow
     breaksGameRule gameRow isOrphan orphans lengthRow tableRows directoryRows verdictOf checkOf listedEntry firstUsed listOf
-    named readRows readVerdict readBuffer rootBlock systemTable entryBytes emptyTable linked twoBlocks threeBlocks
+    entryNamed readRows readVerdict readBuffer rootBlock systemTable unusedEntry entryBytes emptyTable linked twoBlocks threeBlocks
     orphanTable layoutSamples rootSamples tableSamples entrySamples chainSamples directorySamples orphanSamples listSamples
     readSamples lengthSamples cardSamples
 samples-hold = refl

@@ -2,16 +2,16 @@
 -- Assumes nothing.
 use Prim.Native.Nat.{ℕ, zero, suc, _+_, _≤_, _<_}
 use mathlib.Core.Path.{_≡_, refl, sym, ap, subst, _∙_}
-use mathlib.Core.Bool.{Bool, true, false, _||_, true≢false, false≢true, or-assoc}
+use mathlib.Core.Bool.{Bool, true, false, _||_, true≢false, false≢true, or-assoc, or-true}
 use mathlib.Core.List.{List, [], _∷_, _++_, map, append-nil, append-assoc}
 use native.Mathlib.Omega.{arith}
 use native.Mathlib.Decide.{ℕ-discrete}
 use lib.Dec.{eqb}
 use lib.ListN.{length, length-append}
-use borrow.Author.Tests.{eqb-true, eqb-false, ne-eqb}
+use borrow.Author.Tests.{eqb-true, eqb-false, eq-eqb, ne-eqb}
 use Rattle.words.specs.Lists.{anyOf, has, Distinct, concat, numbersFrom}
 use Rattle.words.proofs.Bools.{or-false-left, or-false-right}
-use Rattle.words.proofs.ListLaws.{All}
+use Rattle.words.proofs.ListLaws.{All, all-range}
 use Rattle.words.proofs.Distinct.{count, one, count-next}
 
 module _ {A : Type 0} where
@@ -45,6 +45,29 @@ all-has P (x ∷ l) n a h = go (all-has P l n (a .1)) (eqb x n) refl h
     go ih true d h = subst P (eqb-true x n d) (a .0)
     go ih false d h = ih h
 
+-- a number of the list that passes
+pub record Among (p : ℕ → Bool) (l : List ℕ) : Type 0 where
+  pub found : ℕ
+  pub is-in : has found l ≡ true
+  pub passes : p found ≡ true
+
+pub any-among : (p : ℕ → Bool) (l : List ℕ) → anyOf p l ≡ true → Among p l
+any-among p [] e = absurd (false≢true e)
+any-among p (x ∷ l) e = go (any-among p l) (p x) refl e
+  where
+    go : (anyOf p l ≡ true → Among p l) → (t : Bool) → p x ≡ t → (t || anyOf p l) ≡ true → Among p (x ∷ l)
+    go ih true q e = record { found = x; is-in = rw (eq-eqb x x refl); passes = q }
+    go ih false q e =
+        let a = ih e in
+        record { found = a .found; is-in = rw (a .is-in) (or-true (eqb x (a .found))); passes = a .passes }
+
+pub among-any : (p : ℕ → Bool) (l : List ℕ) (n : ℕ) → has n l ≡ true → p n ≡ true → anyOf p l ≡ true
+among-any p l n h e = go (anyOf p l) refl
+  where
+    go : (t : Bool) → anyOf p l ≡ t → t ≡ true
+    go true q = refl
+    go false q = sym (none-has p l n q e) ∙ h
+
 -- the joined list repeats no number where neither part does and no number of the second is in the first
 pub distinct-append : (l m : List ℕ) → Distinct l → Distinct m → anyOf (λ b. has b l) m ≡ false → Distinct (l ++ m)
 distinct-append [] m d f e = f
@@ -64,6 +87,16 @@ none-range p k (suc n) e i a b = go (none-range p (suc k) n (or-false-right (p k
     go : (suc k ≤ i → i < suc k + n → p i ≡ false) → Dec (i ≡ k) → p i ≡ false
     go ih (yes d) = ap p d ∙ or-false-left (p k) _ e
     go ih (no d) = ih (omega (arith, d)) (omega arith)
+
+pub in-range : (k n i : ℕ) → has i (numbersFrom k n) ≡ true → (k ≤ i) × (i < k + n)
+in-range k n i h = all-has (λ j. (k ≤ j) × (j < k + n)) (numbersFrom k n) i (all-range _ k n (λ j a b. (a, b))) h
+
+pub any-range : (p : ℕ → Bool) (k n i : ℕ) → k ≤ i → i < k + n → p i ≡ true → anyOf p (numbersFrom k n) ≡ true
+any-range p k n i a b e = go (anyOf p (numbersFrom k n)) refl
+  where
+    go : (t : Bool) → anyOf p (numbersFrom k n) ≡ t → t ≡ true
+    go true q = refl
+    go false q = sym (none-range p k n q i a b) ∙ e
 
 -- where each number of a range is of exactly one class, the classes together make the range
 pub count-classes : (p q r s : ℕ → Bool) (k n : ℕ) → ((i : ℕ) → k ≤ i → i < k + n → one (p i) + one (q i) + one (r i) + one (s i) ≡ 1)

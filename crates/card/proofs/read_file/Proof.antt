@@ -3,7 +3,7 @@ use mathlib.Core.Path.{sym, subst, _∙_}
 use Prim.Native.Nat.{ℕ, _<_, _≤_}
 use native.Mathlib.Omega.{arith}
 use Rattle.card_model.specs.Layout.{cardLength, tableOf, directoryOf}
-use Rattle.card_model.specs.Calls.{named}
+use Rattle.card_model.specs.Calls.{entryNamed}
 use Rattle.card_directory.proofs.DirectoryLaws.{found-some, found-none}
 use Rattle.card_chains.specs.Marks.{IsAfter}
 use Rattle.card.proofs.ReadLaws.{named-below, wrong-name, wrong-block, no-file, past-end, first-below, in-file}
@@ -49,7 +49,7 @@ refused-at-requires-3 : tie.Need-refused-at-requires-3
 refused-at-requires-3 c κs = search needs
 
 returns-3 : tie.Need-returns-3
-unfolding named
+unfolding entryNamed
 returns-3 c =
     let d = c .before .before .before .before in
     let a = d .before .before .before .before .before in
@@ -59,7 +59,7 @@ returns-3 c =
     (r .verdict-is, r .buffer-is)
 
 entry-at-requires : tie.Need-entry-at-requires
-unfolding cardLength named
+unfolding cardLength entryNamed
 entry-at-requires c κs =
     let v = c in
     let d = v .before .before .before .before in
@@ -75,7 +75,7 @@ refused-at-requires-4 : tie.Need-refused-at-requires-4
 refused-at-requires-4 c κs = search needs
 
 returns-4 : tie.Need-returns-4
-unfolding named
+unfolding entryNamed
 returns-4 c =
     let n = c .before .before .before .entry-at in
     let z = c .before .before .size in
@@ -92,7 +92,7 @@ first-block-requires : tie.Need-first-block-requires
 first-block-requires c κs = search needs
 
 block-after-requires : tie.Need-block-after-requires
-unfolding cardLength named
+unfolding cardLength entryNamed
 block-after-requires c κs =
     let n = c .before .before .before .entry-at in
     let v = c .before .before .before .before in
@@ -129,7 +129,7 @@ same-length : tie.Need-same-length
 same-length c = search needs
 
 returns-5 : tie.Need-returns-5
-unfolding named
+unfolding entryNamed
 returns-5 c =
     let p = c .before .before .before .before .before .before in
     let n = p .before .before .before .before .entry-at in
