@@ -18,77 +18,72 @@ use Rattle.card_directory.specs.declared.Rule.the-variants.{Fields, Game}
 use Rattle.card_directory.specs.Rules.{GoodChains, firstBroken}
 use Rattle.card_chains.specs.Marks.{chainRows}
 
--- ---- rows 26 and 30 as the directory's code gives them
-
-module _ (table : List ℕ) (directory : List (List ℕ)) where
-  pub fields-row : rowOver 26 Entry (firstBroken Fields table directory 0) ≡ entryRow directory
-  unfolding firstBroken entryRow
-  fields-row = refl
-
-  pub games-row : rowOver 30 Entry (firstBroken Game table directory 0) ≡ gameRow table directory
-  unfolding firstBroken gameRow
-  games-row = refl
-
 passed : (r v : Verdict) → r ≡ v → r .number ≡ 0 → accepted v ≡ true
 passed r v e z = ap accepted (sym e) ∙ eq-eqb (r .number) 0 z
 
 -- ---- t is what was found of rows 20 to 25
 
 module _ (card : List ℕ) (t : Verdict) (et : t ≡ unlessRefused (lengthRow card) (tableRows (rootOf card) (tableOf card))) where
-  abbrev table : List ℕ
-  table = tableOf card
-
-  abbrev directory : List (List ℕ)
-  directory = directoryOf card
-
   pub table-refused : (t .number ≡ 0 → ⊥) → t ≡ verdictOf card
   unfolding verdictOf
-  table-refused n = sym (sym (rows-joined (lengthRow card) (tableRows (rootOf card) table) _) ∙ refused-first _ _ t et n)
+  table-refused n = sym (sym (rows-joined (lengthRow card) (tableRows (rootOf card) (tableOf card)) _) ∙ refused-first _ _ t et n)
 
   module _ (zt : t .number ≡ 0) where
     pub long : length card ≡ 131072
     unfolding lengthRow cardLength
     long = eqb-true _ _ (not-false _ (at-accepts 20 Whole _ refl (unless-accepts (lengthRow card) _ (passed t _ et zt) .0)))
 
-    past-table : verdictOf card ≡ directoryRows table directory
+    pub past-table : directoryRows (tableOf card) (directoryOf card) ≡ verdictOf card
     unfolding verdictOf
-    past-table = sym (rows-joined (lengthRow card) (tableRows (rootOf card) table) _) ∙ not-refused _ _ t et zt
+    past-table = sym (sym (rows-joined (lengthRow card) (tableRows (rootOf card) (tableOf card)) _) ∙ not-refused _ _ t et zt)
 
-    -- f is what was found of row 26
-    module _ (f : Verdict) (ef : f ≡ entryRow directory) where
-      pub fields-refused : (f .number ≡ 0 → ⊥) → f ≡ verdictOf card
+-- ---- rows 26 to 30
+
+module _ (table : List ℕ) (directory : List (List ℕ)) where
+  abbrev rows : Verdict
+  rows = directoryRows table directory
+
+  -- f is what was found of row 26
+  module _ (f : Verdict) (ef : f ≡ rowOver 26 Entry (firstBroken Fields table directory 0)) where
+    is-fields : f ≡ entryRow directory
+    unfolding firstBroken entryRow
+    is-fields = ef
+
+    pub fields-refused : (f .number ≡ 0 → ⊥) → f ≡ rows
+    unfolding directoryRows
+    fields-refused n = sym (refused-first (entryRow directory) _ f is-fields n)
+
+    module _ (zf : f .number ≡ 0) where
+      pub fields-right : (i : ℕ) → i < 208 → wrongEntry (entryAt directory i) ≡ false
+      unfolding entryRow
+      fields-right = below-accepts 26 Entry _ 208 refl (passed f _ is-fields zf)
+
+      past-fields : rows ≡ unlessRefused (chainRows table directory) (unlessRefused (nameRow directory) (gameRow table directory))
       unfolding directoryRows
-      fields-refused n = sym (past-table ∙ refused-first (entryRow directory) _ f ef n)
+      past-fields = not-refused (entryRow directory) _ f is-fields zf ∙ sym (rows-joined (chainRow table directory) (sharingRow table directory) _)
 
-      module _ (zf : f .number ≡ 0) where
-        pub fields-right : (i : ℕ) → i < 208 → wrongEntry (entryAt directory i) ≡ false
-        unfolding entryRow
-        fields-right = below-accepts 26 Entry _ 208 refl (passed f _ ef zf)
+      -- c is what was found of rows 27 and 28
+      module _ (c : Verdict) (ec : c ≡ chainRows table directory) where
+        pub chains-refused : (c .number ≡ 0 → ⊥) → c ≡ rows
+        chains-refused n = sym (past-fields ∙ refused-first _ _ c ec n)
 
-        past-fields : verdictOf card ≡ unlessRefused (chainRows table directory) (unlessRefused (nameRow directory) (gameRow table directory))
-        unfolding directoryRows
-        past-fields = past-table ∙ not-refused (entryRow directory) _ f ef zf ∙ sym (rows-joined (chainRow table directory) (sharingRow table directory) _)
+        module _ (zc : c .number ≡ 0) where
+          pub good-chains : GoodChains table directory
+          unfolding chainRow
+          good-chains = record {
+            fields = fields-right;
+            chains = below-accepts 27 Entry _ 208 refl (unless-accepts (chainRow table directory) _ (passed c _ ec zc) .0);
+          }
 
-        -- c is what was found of rows 27 and 28
-        module _ (c : Verdict) (ec : c ≡ chainRows table directory) where
-          pub chains-refused : (c .number ≡ 0 → ⊥) → c ≡ verdictOf card
-          chains-refused n = sym (past-fields ∙ refused-first _ _ c ec n)
+          past-chains : rows ≡ unlessRefused (nameRow directory) (gameRow table directory)
+          past-chains = past-fields ∙ not-refused _ _ c ec zc
 
-          module _ (zc : c .number ≡ 0) where
-            pub good-chains : GoodChains table directory
-            unfolding chainRow
-            good-chains = record {
-              fields = fields-right;
-              chains = below-accepts 27 Entry _ 208 refl (unless-accepts (chainRow table directory) _ (passed c _ ec zc) .0);
-            }
+          -- m is what was found of row 29
+          module _ (m : Verdict) (em : m ≡ nameRow directory) where
+            pub names-refused : (m .number ≡ 0 → ⊥) → m ≡ rows
+            names-refused n = sym (past-chains ∙ refused-first _ _ m em n)
 
-            past-chains : verdictOf card ≡ unlessRefused (nameRow directory) (gameRow table directory)
-            past-chains = past-fields ∙ not-refused _ _ c ec zc
-
-            -- m is what was found of row 29
-            module _ (m : Verdict) (em : m ≡ nameRow directory) where
-              pub names-refused : (m .number ≡ 0 → ⊥) → m ≡ verdictOf card
-              names-refused n = sym (past-chains ∙ refused-first _ _ m em n)
-
-              pub names-passed : m .number ≡ 0 → gameRow table directory ≡ verdictOf card
-              names-passed zm = sym (past-chains ∙ not-refused _ _ m em zm)
+            -- g is what was found of row 30
+            pub names-passed : m .number ≡ 0 → (g : Verdict) → g ≡ rowOver 30 Entry (firstBroken Game table directory 0) → g ≡ rows
+            unfolding firstBroken gameRow
+            names-passed zm g eg = eg ∙ sym (past-chains ∙ not-refused _ _ m em zm)

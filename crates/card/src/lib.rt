@@ -25,20 +25,16 @@ ghost use lib.ListN.{length};
 ghost use Rattle.verdicts.specs.declared.Place.the-variants.{Whole};
 ghost use Rattle.verdicts.specs.Rows.{accepted};
 ghost use Rattle.card_model.specs.Layout.{tableOf, directoryOf};
-ghost use Rattle.card_model.specs.Calls.{verdictOf, checkOf, notListed, listedEntry, listOf, entryNamed, readRows, readVerdict, leftBy, readBuffer};
+ghost use Rattle.card_model.specs.Calls.{directoryRows, verdictOf, checkOf, notListed, listedEntry, listOf, entryNamed, readRows, readVerdict, leftBy, readBuffer};
 ghost use Rattle.card_model.specs.Sound.{NoRowRefuses};
 ghost use Rattle.card_chains.specs.Marks.{noMarks, fileMarks};
 
-// Refusals 20 to 30; the blocks of all files are marked where none applies.
-fn judge(card: &[u8], marks: &mut [u8; 200]) -> Verdict
-    requires { ⌜ now marks ≡ noMarks ⌝ }
-    ensures { λ r. ⌜ r ≡ verdictOf (now (card .entry)) ⌝ }
+// Refusals 26 to 30; the blocks of all files are marked where none applies.
+fn judge_files(card: &[u8], marks: &mut [u8; 200]) -> Verdict
+    requires { ⌜ (length (now card) ≡ 131072) × (now marks ≡ noMarks) ⌝ }
+    ensures { λ r. ⌜ r ≡ directoryRows (tableOf (now (card .entry))) (directoryOf (now (card .entry))) ⌝ }
     ensures { λ r. ⌜ (accepted r ≡ true → now (marks .exit) ≡ fileMarks (tableOf (now (card .entry))) (directoryOf (now (card .entry))) 208) ⌝ }
 {
-    let table = table_verdict(card);
-    if table.number != 0 {
-        return table;
-    }
     let fields = row(card, Rule::Fields, 26);
     if fields.number != 0 {
         return fields;
@@ -52,6 +48,19 @@ fn judge(card: &[u8], marks: &mut [u8; 200]) -> Verdict
         return names;
     }
     row(card, Rule::Game, 30)
+}
+
+// Refusals 20 to 30, and the marks as above.
+fn judge(card: &[u8], marks: &mut [u8; 200]) -> Verdict
+    requires { ⌜ now marks ≡ noMarks ⌝ }
+    ensures { λ r. ⌜ r ≡ verdictOf (now (card .entry)) ⌝ }
+    ensures { λ r. ⌜ (accepted r ≡ true → now (marks .exit) ≡ fileMarks (tableOf (now (card .entry))) (directoryOf (now (card .entry))) 208) ⌝ }
+{
+    let table = table_verdict(card);
+    if table.number != 0 {
+        return table;
+    }
+    judge_files(card, marks)
 }
 
 // Whether the card is sound, and then how many orphans it has.

@@ -23,7 +23,7 @@ use Rattle.card_model.specs.Calls.{verdictOf, checkOf, listedEntry, notL
 use Rattle.card_model.specs.Examples.{emptyCard, filesCard}
 use Rattle.card_model.specs.Sound.{SoundCard, NoRowRefuses, entryOn, fileOn, fileBytes, UsedEntry}
 
--- "each chain has exactly its entry's size and stays in 0..199", and repeats no block.
+-- A file has exactly its entry's size, stays in 0..199 and repeats no block.
 pub record SoundFile (card : List ℕ) (i : ℕ) : Type 0 where
   pub has-size : length (fileOn card i) ≡ size (entryOn card i)
   pub not-empty : 1 ≤ size (entryOn card i)
@@ -144,12 +144,12 @@ pub record Theorems : Type 0 where
       → IsChain (tableOf card) (size (entryOn card i)) (firstBlock (entryOn card i)) blocks → fileOn card i ≡ blocks
   pub no-file : (card : List ℕ) (i : ℕ) → isUsed (entryOn card i) ≡ false → fileOn card i ≡ []
   pub sound-file : (card : List ℕ) → SoundCard card → (i : ℕ) → UsedEntry card i → SoundFile card i
-  -- "chains of different used entries share no block"
+  -- files of different entries share no block
   pub files-apart : (card : List ℕ) → SoundCard card → (i j b : ℕ) → UsedEntry card i → UsedEntry card j → i ≢ j
       → has b (fileOn card i) ≡ true → has b (fileOn card j) ≡ false
-  -- "used entries are at most 200"
+  -- so there are at most 200 files
   pub at-most-200 : (card : List ℕ) → SoundCard card → length (keep (λ i. isUsed (entryOn card i)) (numbersFrom 0 208)) ≤ 200
-  -- "orphans plus file blocks plus free and damaged blocks make 200"
+  -- each user block is an orphan, in a file, free or damaged
   pub all-blocks : (card : List ℕ) → SoundCard card
       → files.orphans (tableOf card) (directoryOf card) + blocksInFiles card + countBlocks card isFree + countBlocks card isDamaged ≡ 200
   -- a game lies in blocks 0, 1, 2 and on, and there is at most one
@@ -164,7 +164,7 @@ pub record Theorems : Type 0 where
       → ((j : ℕ) → start ≤ j → j < 208 → isUsed (entryOn card j) ≡ false) → listOf card start ≡ notListed (refusedAt 31 Whole)
   -- a name finds its own entry
   pub found-by-name : (card : List ℕ) → SoundCard card → (i : ℕ) → UsedEntry card i → entryNamed (directoryOf card) (nameOf (entryOn card i)) ≡ some i
-  -- "a file's blocks read in order are its bytes"
+  -- the blocks of a file, read in order, are its bytes
   pub reads-block : (card : List ℕ) → SoundCard card → (i index : ℕ) (buffer : List ℕ) → UsedEntry card i → index < size (entryOn card i)
       → length buffer ≡ 512
       → (readVerdict card (nameOf (entryOn card i)) index buffer ≡ done)
