@@ -61,8 +61,8 @@ pub(crate) fn breaks_game_rule(card: &[u8], i: usize) -> bool
         return true;
     }
     let blocks = size(entry);
-    if !rises(card, blocks) {
+    if 128 < blocks {
         return true;
     }
-    128 < blocks
+    !rises(card, blocks)
 }

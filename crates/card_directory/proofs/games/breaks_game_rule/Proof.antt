@@ -1,10 +1,12 @@
 -- `breaks_game_rule` meets its contract: each `return` is a clause of the rule. Assumes nothing.
-use mathlib.Core.Path.{sym, ap, _∙_}
-use borrow.Author.Tests.{not-true, not-false, eq-eqb, ne-eqb}
-use Rattle.card_model.specs.Layout.{tableOf, directoryOf}
-use Rattle.card_model.specs.Entries.{firstBlock}
 use Prim.Native.Nat.{ℕ}
+use mathlib.Core.Path.{sym, ap, _∙_}
+use mathlib.Core.Bool.{or-true, or-false}
 use mathlib.Core.List.{List}
+use borrow.Author.Tests.{not-true, not-false, eq-eqb, ne-eqb, lt-ltb, le-ltb}
+use native.Mathlib.Omega.{arith}
+use Rattle.card_model.specs.Layout.{tableOf, directoryOf}
+use Rattle.card_model.specs.Entries.{firstBlock, size}
 use Rattle.card_model.specs.Files.{chain, orEmpty, rising}
 use Rattle.card_directory.proofs.DirectoryLaws.{game-chain, game-rule}
 use borrow.Author.Needs.{needs}
@@ -60,46 +62,39 @@ returns-3 c =
 size-requires : tie.Need-size-requires
 size-requires c κs = search needs
 
-rises-requires : tie.Need-rises-requires
-rises-requires c κs =
-    let d = c .before .before in
-    let f = d .before .before .before in
-    let g = f .before in
-    let n = g .before .entry-at in
-    let a = g .before .before .before in
-    let card = a .args .card .now in
-    let e = game-rule (directoryOf card) (a .args .i) (n .result .now) (n .ensures .0) (tableOf card) in
-    let z = sym (d .first-block .ensures) ∙ c .before .if3 .left in
-    let k = game-chain (tableOf card) (n .result .now) (sym (g .is-game .ensures) ∙ not-false _ (f .if1 .left))
-    (rw (n .ensures .0) (a .pre .1 .fields (a .args .i) (a .pre .0 .1))) (rw (n .ensures .0) (a .pre .1 .chains (a .args .i) (a .pre .0 .1))) z in
-    let q = c .size .ensures in
-    ((a .pre .0 .0, rw q (k .most)), rw q (k .there))
-
 returns-4 : tie.Need-returns-4
 returns-4 c =
-    let d = c .before .before .before .before in
+    let d = c .before .before .before in
     let f = d .before .before .before in
     let g = f .before in
     let n = g .before .entry-at in
     let a = g .before .before .before in
     let card = a .args .card .now in
     let e = game-rule (directoryOf card) (a .args .i) (n .result .now) (n .ensures .0) (tableOf card) in
-    let z = sym (d .first-block .ensures) ∙ c .before .before .before .if3 .left in
-    let k = game-chain (tableOf card) (n .result .now) (sym (g .is-game .ensures) ∙ not-false _ (f .if1 .left))
-    (rw (n .ensures .0) (a .pre .1 .fields (a .args .i) (a .pre .0 .1))) (rw (n .ensures .0) (a .pre .1 .chains (a .args .i) (a .pre .0 .1))) z in
-    let q = c .before .before .size .ensures in
-    let r =
-    ap (λ (l : List ℕ). rising l) (sym (k .file))
-    ∙ ap (λ (m : ℕ). rising (orEmpty (chain (tableOf card) m 0))) (sym q)
-    ∙ sym (c .before .rises .ensures) ∙ not-true _ (c .if4 .taken) in
-    sym
-    (e
-    ∙ rw (
+    let z = sym (d .first-block .ensures) ∙ c .before .before .if3 .left in
+    let q = c .before .size .ensures in
+    sym (e ∙ rw (
       sym (g .is-game .ensures) ∙ not-false _ (f .if1 .left),
       sym (d .before .before .game-before .ensures) ∙ d .before .if2 .left,
       eq-eqb (firstBlock (n .result .now)) 0 z,
-      r,
+      lt-ltb 128 (size (n .result .now)) (omega (arith, q)),
+      or-true,
     ))
+
+rises-requires : tie.Need-rises-requires
+rises-requires c κs =
+    let d = c .before .before .before in
+    let f = d .before .before .before in
+    let g = f .before in
+    let n = g .before .entry-at in
+    let a = g .before .before .before in
+    let card = a .args .card .now in
+    let e = game-rule (directoryOf card) (a .args .i) (n .result .now) (n .ensures .0) (tableOf card) in
+    let z = sym (d .first-block .ensures) ∙ c .before .before .if3 .left in
+    let k = game-chain (tableOf card) (n .result .now) (sym (g .is-game .ensures) ∙ not-false _ (f .if1 .left))
+    (rw (n .ensures .0) (a .pre .1 .fields (a .args .i) (a .pre .0 .1))) (rw (n .ensures .0) (a .pre .1 .chains (a .args .i) (a .pre .0 .1))) z in
+    let q = c .before .size .ensures in
+    ((a .pre .0 .0, rw q (k .most)), rw q (k .there))
 
 returns-5 : tie.Need-returns-5
 returns-5 c =
@@ -114,18 +109,13 @@ returns-5 c =
     let k = game-chain (tableOf card) (n .result .now) (sym (g .is-game .ensures) ∙ not-false _ (f .if1 .left))
     (rw (n .ensures .0) (a .pre .1 .fields (a .args .i) (a .pre .0 .1))) (rw (n .ensures .0) (a .pre .1 .chains (a .args .i) (a .pre .0 .1))) z in
     let q = c .before .before .size .ensures in
-    let r =
-    ap (λ (l : List ℕ). rising l) (sym (k .file))
-    ∙ ap (λ (m : ℕ). rising (orEmpty (chain (tableOf card) m 0))) (sym q)
-    ∙ sym (c .before .rises .ensures) ∙ not-false _ (c .if4 .left) in
-    rw q
-    (sym
-    (e
-    ∙ rw (
+    let r = c .rises .ensures ∙ ap (λ (m : ℕ). rising (orEmpty (chain (tableOf card) m 0))) q ∙ ap (λ (l : List ℕ). rising l) (k .file) in
+    rw r (sym (e ∙ rw (
       sym (g .is-game .ensures) ∙ not-false _ (f .if1 .left),
       sym (d .before .before .game-before .ensures) ∙ d .before .if2 .left,
       eq-eqb (firstBlock (n .result .now)) 0 z,
-      r,
+      le-ltb 128 (size (n .result .now)) (omega (arith, q)),
+      or-false,
     )))
 
 pub breaks-game-rule-spec : {M : Type 1} → statement M
@@ -140,6 +130,6 @@ breaks-game-rule-spec =
     first-block-requires
     returns-3
     size-requires
-    rises-requires
     returns-4
+    rises-requires
     returns-5)
