@@ -14,12 +14,12 @@ use Rattle.card_model.specs.declared.Checked.{Checked}
 use Rattle.card_model.specs.Layout.{tableOf, directoryOf}
 use Rattle.card_model.specs.Entries.{nameOf, timeOf}
 use Rattle.card_model.specs.Files as files
-use Rattle.card_model.specs.Calls.{verdictOf, checkOf, notListed, firstUsed, listedFrom, listOf, entryNamed, readRows, readVerdict, leftBy, readBuffer}
+use Rattle.card_model.specs.Calls.{verdictOf, checkOf, notChecked, notListed, firstUsed, listedFrom, listOf, entryNamed, readRows, readVerdict, leftBy, readBuffer}
 use Rattle.card_model.specs.Sound.{NoRowRefuses}
 use Rattle.card_model.proofs.SoundLaws.{accepted-rows}
 
 module _ (card : List ℕ) (v : Verdict) (e : v ≡ verdictOf card) where
-  pub check-refused : (v .number ≡ 0 → ⊥) → _≡_ {A = Checked} (record { verdict = v; orphans = 0 }) (checkOf card)
+  pub check-refused : (v .number ≡ 0 → ⊥) → notChecked v ≡ checkOf card
   unfolding checkOf
   check-refused n = rw (← e, ne-eqb (v .number) 0 n)
 

@@ -25,7 +25,7 @@ ghost use lib.ListN.{length};
 ghost use Rattle.verdicts.specs.declared.Place.the-variants.{Whole};
 ghost use Rattle.verdicts.specs.Rows.{accepted};
 ghost use Rattle.card_model.specs.Layout.{tableOf, directoryOf};
-ghost use Rattle.card_model.specs.Calls.{directoryRows, verdictOf, checkOf, notListed, listedEntry, listOf, entryNamed, readRows, readVerdict, leftBy, readBuffer};
+ghost use Rattle.card_model.specs.Calls.{directoryRows, verdictOf, checkOf, notChecked, notListed, listedEntry, listOf, entryNamed, readRows, readVerdict, leftBy, readBuffer};
 ghost use Rattle.card_model.specs.Sound.{NoRowRefuses};
 ghost use Rattle.card_chains.specs.Marks.{noMarks, fileMarks};
 
@@ -50,30 +50,39 @@ fn judge_files(card: &[u8], marks: &mut [u8; 200]) -> Verdict
     row(card, Rule::Game, 30)
 }
 
-// Refusals 20 to 30, and the marks as above.
-fn judge(card: &[u8], marks: &mut [u8; 200]) -> Verdict
-    requires { ⌜ now marks ≡ noMarks ⌝ }
+// Refusals 20 to 30.
+fn judge(card: &[u8]) -> Verdict
     ensures { λ r. ⌜ r ≡ verdictOf (now (card .entry)) ⌝ }
-    ensures { λ r. ⌜ (accepted r ≡ true → now (marks .exit) ≡ fileMarks (tableOf (now (card .entry))) (directoryOf (now (card .entry))) 208) ⌝ }
 {
     let table = table_verdict(card);
     if table.number != 0 {
         return table;
     }
-    judge_files(card, marks)
+    let mut marks = [0u8; 200];
+    judge_files(card, &mut marks)
+}
+
+fn not_checked(verdict: Verdict) -> Checked
+    ensures { λ r. ⌜ r ≡ notChecked verdict ⌝ }
+{
+    Checked {
+        verdict,
+        orphans: 0,
+    }
 }
 
 // Whether the card is sound, and then how many orphans it has.
 pub fn check(card: &[u8]) -> Checked
     ensures { λ r. ⌜ r ≡ checkOf (now (card .entry)) ⌝ }
 {
+    let table = table_verdict(card);
+    if table.number != 0 {
+        return not_checked(table);
+    }
     let mut marks = [0u8; 200];
-    let verdict = judge(card, &mut marks);
+    let verdict = judge_files(card, &mut marks);
     if verdict.number != 0 {
-        return Checked {
-            verdict,
-            orphans: 0,
-        };
+        return not_checked(verdict);
     }
     Checked {
         verdict,
@@ -123,8 +132,7 @@ fn listed(i: usize, found: &[u8]) -> Listing
 pub fn list(card: &[u8], from: usize) -> Listing
     ensures { λ r. ⌜ r ≡ listOf (now (card .entry)) from ⌝ }
 {
-    let mut marks = [0u8; 200];
-    let verdict = judge(card, &mut marks);
+    let verdict = judge(card);
     if verdict.number != 0 {
         return not_listed(verdict);
     }
@@ -164,8 +172,7 @@ pub fn read(card: &[u8], name: &[u8], index: usize, block: &mut [u8]) -> Verdict
     ensures { λ r. ⌜ r ≡ readVerdict (now (card .entry)) (now (name .entry)) index (now (block .entry)) ⌝ }
     ensures { λ _. ⌜ now (block .exit) ≡ readBuffer (now (card .entry)) (now (name .entry)) index (now (block .entry)) ⌝ }
 {
-    let mut marks = [0u8; 200];
-    let verdict = judge(card, &mut marks);
+    let verdict = judge(card);
     if verdict.number != 0 {
         return verdict;
     }

@@ -58,6 +58,10 @@ checkOf card = record {
   orphans = cond (accepted (verdictOf card)) (files.orphans (tableOf card) (directoryOf card)) 0;
 }
 
+-- Nothing but the verdict.
+abbrev pub notChecked : Verdict → Checked
+notChecked v = record { verdict = v; orphans = 0 }
+
 -- ---- list
 
 -- Nothing but the verdict.

@@ -19,7 +19,7 @@ use Rattle.card_model.specs.Table.{rightFields, fatEntry, linkAt, system
 use Rattle.card_model.specs.Entries.{kind, flag, firstBlock, nameOf, size, headerOffset, isUsed, isData, isGame}
 use Rattle.card_model.specs.Files.{chain, filesBefore}
 use Rattle.card_model.specs.Files as files
-use Rattle.card_model.specs.Calls.{verdictOf, checkOf, listedEntry, notListed, listOf, entryNamed, readVerdict, readBuffer}
+use Rattle.card_model.specs.Calls.{verdictOf, checkOf, notChecked, listedEntry, notListed, listOf, entryNamed, readVerdict, readBuffer}
 use Rattle.card_model.specs.Examples.{emptyCard, filesCard}
 use Rattle.card_model.specs.Sound.{SoundCard, NoRowRefuses, entryOn, fileOn, fileBytes, UsedEntry}
 
@@ -121,7 +121,7 @@ pub record Refused (card : List ℕ) (v : Verdict) : Type 0 where
 
 -- Every call gives this verdict and nothing beside it: no orphan and no entry. "A refusal changes no byte of any buffer."
 pub record RefusedCalls (card : List ℕ) (v : Verdict) : Type 0 where
-  pub checked : checkOf card ≡ record { verdict = v; orphans = 0 }
+  pub checked : checkOf card ≡ notChecked v
   pub listed : (start : ℕ) → listOf card start ≡ notListed v
   pub read : (name : List ℕ) (index : ℕ) (buffer : List ℕ) → readVerdict card name index buffer ≡ v
   pub unread : (name : List ℕ) (index : ℕ) (buffer : List ℕ) → readBuffer card name index buffer ≡ buffer

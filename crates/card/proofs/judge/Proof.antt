@@ -1,6 +1,6 @@
 -- `judge` meets its contract: the rows of the table, then those of the directory. Assumes nothing.
-use mathlib.Core.Path.{_∙_}
-use borrow.Author.Tests.{eqb-true}
+use mathlib.Core.Path.{refl, _∙_}
+use Rattle.card_chains.specs.Marks.{noMarks}
 use Rattle.card.proofs.JudgeLaws.{table-refused, long, past-table}
 use borrow.Author.Needs.{needs}
 use Rattle.card.proofs.judge.Statement.{statement}
@@ -13,26 +13,23 @@ returns : tie.Need-returns
 returns c =
     let d = c in
     let t = d .before .before .table-verdict in
-    let a = d .before .before .before .before in
-    let card = a .args .card .now in
-    (table-refused card (t .result) (t .ensures) (c .if1 .taken), λ z. absurd (c .if1 .taken (eqb-true _ _ z)))
+    let card = d .before .before .before .before .args .card .now in
+    table-refused card (t .result) (t .ensures) (c .if1 .taken)
 
 judge-files-requires : tie.Need-judge-files-requires
+unfolding noMarks
 judge-files-requires c κs =
     let d = c .before in
     let t = d .before .before .table-verdict in
-    let a = d .before .before .before .before in
-    let card = a .args .card .now in
-    (long card (t .result) (t .ensures) (d .if1 .left), a .pre)
+    let card = d .before .before .before .before .args .card .now in
+    (long card (t .result) (t .ensures) (d .if1 .left), refl)
 
 returns-2 : tie.Need-returns-2
 returns-2 c =
     let d = c .before .before in
     let t = d .before .before .table-verdict in
-    let a = d .before .before .before .before in
-    let card = a .args .card .now in
-    let j = c .judge-files .ensures in
-    (j .0 ∙ past-table card (t .result) (t .ensures) (d .if1 .left), j .1)
+    let card = d .before .before .before .before .args .card .now in
+    c .judge-files .ensures .0 ∙ past-table card (t .result) (t .ensures) (d .if1 .left)
 
 pub judge-spec : {M : Type 1} → statement M
 judge-spec = tie.close (tie.spec table-verdict-requires returns judge-files-requires returns-2)

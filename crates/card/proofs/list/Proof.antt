@@ -1,17 +1,15 @@
 -- `list` meets its contract. Assumes nothing.
-use mathlib.Core.Path.{refl, sym, ap, _∙_}
+use mathlib.Core.Path.{sym, ap, _∙_}
 use Rattle.card_model.specs.Layout.{cardLength, directoryOf}
 use Rattle.card_model.specs.Calls.{notListed, listedEntry}
 use Rattle.card_directory.proofs.DirectoryLaws.{found-some, found-none}
-use Rattle.card_chains.specs.Marks.{noMarks}
 use Rattle.card.proofs.AnswerLaws.{rows-hold, list-refused, list-passed, used-below}
 use borrow.Author.Needs.{needs}
 use Rattle.card.proofs.list.Statement.{statement}
 use Rattle.card.proofs.list.Tie as tie
 
 judge-requires : tie.Need-judge-requires
-unfolding noMarks
-judge-requires c κs = refl
+judge-requires c κs = search needs
 
 not-listed-requires : tie.Need-not-listed-requires
 not-listed-requires c κs = search needs
@@ -20,18 +18,18 @@ returns : tie.Need-returns
 returns c =
     let d = c .before in
     let j = d .before .before .judge in
-    let a = d .before .before .before .before .before .args in
+    let a = d .before .before .before .before .args in
     let card = a .card .now in
-    c .not-listed .ensures ∙ list-refused card (j .result) (j .ensures .0) (a .from) (d .if1 .taken)
+    c .not-listed .ensures ∙ list-refused card (j .result) (j .ensures) (a .from) (d .if1 .taken)
 
 first-used-requires : tie.Need-first-used-requires
 unfolding cardLength
 first-used-requires c κs =
     let d = c in
     let j = d .before .before .judge in
-    let a = d .before .before .before .before .before .args in
+    let a = d .before .before .before .before .args in
     let card = a .card .now in
-    rows-hold card (j .result) (j .ensures .0) (d .if1 .left) .long
+    rows-hold card (j .result) (j .ensures) (d .if1 .left) .long
 
 enum-known-i : tie.Need-enum-known-i
 enum-known-i c = search needs
@@ -50,10 +48,10 @@ returns-2 c =
     let u = c .before .before .before .before .first-used in
     let d = c .before .before .before .before .before in
     let j = d .before .before .judge in
-    let a = d .before .before .before .before .before .args in
+    let a = d .before .before .before .before .args in
     let card = a .card .now in
     let o = found-none _ (sym (u .ensures) ∙ c .before .before .enum-told .given .1) in
-    c .not-listed2 .ensures ∙ ap notListed (c .before .refused-at .ensures) ∙ list-passed card (j .result) (j .ensures .0) (a .from) (d .if1 .left) _ o
+    c .not-listed2 .ensures ∙ ap notListed (c .before .refused-at .ensures) ∙ list-passed card (j .result) (j .ensures) (a .from) (d .if1 .left) _ o
 
 entry-at-requires : tie.Need-entry-at-requires
 unfolding cardLength
@@ -61,10 +59,10 @@ entry-at-requires c κs =
     let u = c .before .before .before .first-used in
     let d = c .before .before .before .before in
     let j = d .before .before .judge in
-    let a = d .before .before .before .before .before .args in
+    let a = d .before .before .before .before .args in
     let card = a .card .now in
     let o = found-some _ _ (sym (u .ensures) ∙ c .before .i .given .1) in
-    (rows-hold card (j .result) (j .ensures .0) (d .if1 .left) .long, used-below (directoryOf card) (a .from) _ o)
+    (rows-hold card (j .result) (j .ensures) (d .if1 .left) .long, used-below (directoryOf card) (a .from) _ o)
 
 listed-requires : tie.Need-listed-requires
 listed-requires c κs = search needs
@@ -74,10 +72,10 @@ returns-3 c =
     let u = c .before .before .before .before .before .first-used in
     let d = c .before .before .before .before .before .before in
     let j = d .before .before .judge in
-    let a = d .before .before .before .before .before .args in
+    let a = d .before .before .before .before .args in
     let card = a .card .now in
     let o = found-some _ _ (sym (u .ensures) ∙ c .before .before .before .i .given .1) in
-    c .listed .ensures ∙ ap (listedEntry _) (c .before .entry-at .ensures .0) ∙ list-passed card (j .result) (j .ensures .0) (a .from) (d .if1 .left) _ o
+    c .listed .ensures ∙ ap (listedEntry _) (c .before .entry-at .ensures .0) ∙ list-passed card (j .result) (j .ensures) (a .from) (d .if1 .left) _ o
 
 pub list-spec : {M : Type 1} → statement M
 list-spec =
