@@ -1,5 +1,5 @@
-// What a memory card means: definitions in specs/, theorems in proofs/. Here stand only the types that both the definitions
-// and the calls use.
+// What a memory card means: definitions and theorems in specs/, their proofs in proofs/. Here stand only the types that both the
+// definitions and the calls use.
 use verdicts::Verdict;
 
 // What the table says of a block: document 01, "FFFC is free, FFFF damaged, FFFA last, and 0 to 199 the next block".
