@@ -21,7 +21,7 @@ pub(crate) fn read_table(card: &[u8], table: &mut [u16; 256])
     }
 }
 
-// An entry as a wider number: of a parameter the check knows that it fits, of an element of a lent array it does not.
+// An entry as a wider number: of a parameter the prover knows that it fits, of an element of a lent array it does not.
 fn wide(e: u16) -> usize
     ensures { λ r. ⌜ r ≡ e ⌝ }
 {

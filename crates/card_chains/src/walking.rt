@@ -58,6 +58,7 @@ pub(crate) fn walk(
     }
 }
 
+// The block that `left` steps over this table lead to.
 fn follow(table: &[u16; 256], block: usize, left: usize) -> usize
     requires { ⌜ block < 200 ⌝ }
     ensures { λ r. ⌜ IsAfter (now (table .entry)) block left r ⌝ }
@@ -75,7 +76,7 @@ fn follow(table: &[u16; 256], block: usize, left: usize) -> usize
     }
 }
 
-// The block that `left` steps from this one lead to.
+// The same over the card's table.
 pub fn block_after(card: &[u8], block: usize, left: usize) -> usize
     requires { ⌜ (length (now card) ≡ 131072) × (block < 200) ⌝ }
     ensures { λ r. ⌜ IsAfter (tableOf (now (card .entry))) block left r ⌝ }

@@ -64,7 +64,7 @@ notChecked v = record { verdict = v; orphans = 0 }
 
 -- ---- list
 
--- Nothing but the verdict.
+-- Nothing but the verdict, with zeros for an entry.
 abbrev pub notListed : Verdict → Listing
 notListed v = record {
   verdict = v;

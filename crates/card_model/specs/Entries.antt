@@ -15,9 +15,11 @@ use Rattle.verdicts.specs.Rows.{rowOver}
 
 -- ---- fields (002, 003: "Directory"; 003's offsets 008 and 00a of the second row are 0x18 and 0x1a)
 
+-- Document 01's type.
 unfoldable pub kind : List ℕ → ℕ
 kind entry = getD entry 0 0
 
+-- The copy flag.
 unfoldable pub flag : List ℕ → ℕ
 flag entry = getD entry 1 0
 
@@ -79,6 +81,7 @@ wrongEntry entry = isUsed entry && (wrongKind entry || (wrongFlag entry || (wron
 unfoldable pub entryAt : List (List ℕ) → ℕ → List ℕ
 entryAt directory i = getD directory i []
 
+-- 26, of the first bad entry.
 unfoldable pub entryRow : List (List ℕ) → Verdict
 entryRow directory = rowOver 26 Entry (lowest (λ i. wrongEntry (entryAt directory i)) 0 208)
 

@@ -17,7 +17,7 @@ ghost use Rattle.card_model.specs.Table.{magicRow, fieldsRow, rightFields, fatE
 ghost use Rattle.card_model.specs.Calls.{lengthRow, tableRows};
 ghost use Rattle.card_table.specs.Regions.{wrongIn, Ready};
 
-pub const LENGTH: usize = 131072;
+const LENGTH: usize = 131072;
 
 const ROOT: usize = 130560;
 
@@ -38,6 +38,7 @@ pub fn fat_entry(card: &[u8], b: usize) -> usize
     word(card, TABLE + 2 * b)
 }
 
+// The class of a table entry.
 pub fn classify(e: usize) -> Link
     ensures { λ r. ⌜ r ≡ linkOf e ⌝ }
 {

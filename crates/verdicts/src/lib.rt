@@ -16,6 +16,7 @@ pub struct Verdict {
     pub place: Place,
 }
 
+// 0, with the whole card for its place.
 pub fn done() -> Verdict
     ensures { λ r. ⌜ r ≡ rows.done ⌝ }
 {
@@ -25,6 +26,7 @@ pub fn done() -> Verdict
     }
 }
 
+// A refusal's number at its place.
 pub fn refused_at(number: u8, place: Place) -> Verdict
     ensures { λ r. ⌜ r ≡ rows.refusedAt number place ⌝ }
 {
