@@ -1,0 +1,18 @@
+-- `galtuyeg_flash_report` meets its contract. Assumes nothing.
+use mathlib.Core.Path.{ap, _∙_}
+use Rattle.capi.specs.Structs.{reportOf}
+use borrow.Author.Needs.{needs}
+use Rattle.capi.proofs.galtuyeg_flash_report.Statement.{statement}
+use Rattle.capi.proofs.galtuyeg_flash_report.Tie as tie
+
+report-requires : tie.Need-report-requires
+report-requires c κs = search needs
+
+report-answer-requires : tie.Need-report-answer-requires
+report-answer-requires c κs = search needs
+
+returns : tie.Need-returns
+returns c = c .report-answer .ensures ∙ ap reportOf (c .before .report .ensures .answer-is)
+
+pub galtuyeg-flash-report-spec : {M : Type 1} → statement M
+galtuyeg-flash-report-spec = tie.close (tie.spec report-requires report-answer-requires returns)

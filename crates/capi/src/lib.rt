@@ -1,0 +1,123 @@
+// The public calls for programs in C and Rust. include/galtuyeg.h declares them, with the structs under C's names.
+//
+// Nothing is asked of what a caller lends but that each pointer is good for its length and that no two overlap, which is C's
+// side of a slice. Where a call is refused, every value but the code and the place is 0.
+pub mod answers;
+
+use answers::CardCheckAnswer;
+use answers::CardEntryAnswer;
+use answers::CardVerdictAnswer;
+use answers::NextLiveAnswer;
+use answers::ReportAnswer;
+use answers::card_verdict;
+use answers::next_live_answer;
+use answers::report_answer;
+ghost use mathlib.Core.Path.{_≡_};
+ghost use mathlib.Core.List.{[], _∷_};
+ghost use Rattle.flash_model.specs.Calls.{Answered, replyTo, Call.onPage, Call.onWhole, PageCall.read, PageCall.save, WholeCall.check, WholeCall.report, WholeCall.nextLive, WholeCall.erase};
+ghost use Rattle.flash.specs.Answers.{numbered};
+ghost use Rattle.card_model.specs.Calls.{checkOf, listOf, readVerdict, readBuffer};
+ghost use Rattle.capi.specs.Structs.{reportOf, nextLiveOf, cardCheckOf, cardEntryOf, cardVerdictOf};
+
+#[no_mangle]
+pub extern "C" fn galtuyeg_flash_check(image: &[u8], partition: u8) -> u32
+    ensures { λ r. ⌜ Answered (now (image .entry)) (onWhole (check partition)) (now (image .entry)) (numbered r []) ⌝ }
+{
+    flash::check(image, partition) as u32
+}
+
+#[no_mangle]
+pub extern "C" fn galtuyeg_flash_report(image: &[u8], partition: u8) -> ReportAnswer
+    ensures { λ r. ⌜ r ≡ reportOf (replyTo (now (image .entry)) (onWhole (report partition))) ⌝ }
+{
+    report_answer(flash::report(image, partition))
+}
+
+#[no_mangle]
+pub extern "C" fn galtuyeg_flash_next_live(image: &[u8], partition: u8, from: u64) -> NextLiveAnswer
+    ensures { λ r. ⌜ r ≡ nextLiveOf (replyTo (now (image .entry)) (onWhole (nextLive partition from))) ⌝ }
+{
+    next_live_answer(flash::next_live(image, partition, from as usize))
+}
+
+#[no_mangle]
+pub extern "C" fn galtuyeg_flash_read(
+    image: &[u8],
+    partition: u8,
+    number: u64,
+    page: &mut [u8],
+) -> u32
+    ensures { λ r. ⌜ Answered (now (image .entry)) (onPage (read partition number (now (page .entry)))) (now (image .entry)) (numbered r (now (page .exit) ∷ [])) ⌝ }
+{
+    flash::read(image, partition, number as usize, page) as u32
+}
+
+#[no_mangle]
+pub extern "C" fn galtuyeg_flash_save(
+    image: &mut [u8],
+    partition: u8,
+    number: u64,
+    expected: &[u8],
+    page: &[u8],
+) -> u32
+    ensures { λ r. ⌜ Answered (now (image .entry)) (onPage (save partition number (now (expected .entry)) (now (page .entry)))) (now (image .exit)) (numbered r (now (expected .entry) ∷ now (page .entry) ∷ [])) ⌝ }
+{
+    flash::save(image, partition, number as usize, expected, page) as u32
+}
+
+#[no_mangle]
+pub extern "C" fn galtuyeg_flash_erase(image: &mut [u8], partition: u8) -> u32
+    ensures { λ r. ⌜ Answered (now (image .entry)) (onWhole (erase partition)) (now (image .exit)) (numbered r []) ⌝ }
+{
+    flash::erase(image, partition) as u32
+}
+
+#[no_mangle]
+pub extern "C" fn galtuyeg_card_check(card: &[u8]) -> CardCheckAnswer
+    ensures { λ r. ⌜ r ≡ cardCheckOf (checkOf (now (card .entry))) ⌝ }
+{
+    let checked = card::check(card);
+    let verdict = card_verdict(checked.verdict);
+    CardCheckAnswer {
+        code: verdict.code,
+        place_kind: verdict.place_kind,
+        place: verdict.place,
+        orphans: checked.orphans as u64,
+    }
+}
+
+#[no_mangle]
+pub extern "C" fn galtuyeg_card_list(card: &[u8], from: u64) -> CardEntryAnswer
+    ensures { λ r. ⌜ r ≡ cardEntryOf (listOf (now (card .entry)) from) ⌝ }
+{
+    let listing = card::list(card, from as usize);
+    let verdict = card_verdict(listing.verdict);
+    let name = listing.name;
+    let time = listing.time;
+    CardEntryAnswer {
+        code: verdict.code,
+        place_kind: verdict.place_kind,
+        place: verdict.place,
+        entry: listing.entry as u64,
+        kind: listing.kind as u64,
+        flag: listing.flag as u64,
+        first: listing.first as u64,
+        size: listing.size as u64,
+        offset: listing.offset as u64,
+        name,
+        time,
+    }
+}
+
+#[no_mangle]
+pub extern "C" fn galtuyeg_card_read(
+    card: &[u8],
+    name: &[u8],
+    index: u64,
+    block: &mut [u8],
+) -> CardVerdictAnswer
+    ensures { λ r. ⌜ r ≡ cardVerdictOf (readVerdict (now (card .entry)) (now (name .entry)) index (now (block .entry))) ⌝ }
+    ensures { λ _. ⌜ now (block .exit) ≡ readBuffer (now (card .entry)) (now (name .entry)) index (now (block .entry)) ⌝ }
+{
+    card_verdict(card::read(card, name, index as usize, block))
+}

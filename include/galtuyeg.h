@@ -1,0 +1,125 @@
+/* Galtuyeg: Dreamcast system flash partitions and VMU memory cards, on images that the caller lends.
+ *
+ * Link target/staticlib/libcapi.a, which `rt staticlib capi` makes (x86-64).
+ *
+ * Every call ends, tests its own input, and reads and writes only inside the buffers it is lent. It answers a number: 0 when it
+ * is done, else the refusal's, and then no byte of any buffer has changed. docs/MANUAL.md has the numbers.
+ *
+ * What the caller answers for:
+ * - A buffer is a pointer and the length behind it in bytes; so many bytes must be there, writable where the pointer is not to
+ *   const. A pointer may be NULL where its length is 0, and only there.
+ * - Buffers of one call must not overlap.
+ * - Nobody else writes a lent buffer while a call runs, and nobody reads one that the call may write.
+ * Nothing is kept between calls: there is no handle to open or close, and calls on buffers of their own may run at the same time.
+ */
+#ifndef GALTUYEG_H
+#define GALTUYEG_H
+
+#include <stddef.h>
+#include <stdint.h>
+
+#ifdef __cplusplus
+extern "C" {
+#endif
+
+/* ---- System flash partitions: images of 16,384, 32,768 or 65,536 bytes. `partition` is the number that the header must have.
+ *
+ * Numbers: 0 done; 1 length; 2 header letters; 3 partition number; 4 version; 5 allocated block after a free one; 6 logical
+ * number too high; 7 nothing there; 8 buffer length; 9 contents are not what was expected. Tested in the order 1 to 5, 6, 8,
+ * then 7 or 9. */
+
+#define GALTUYEG_PAGE_BYTES 60
+
+/* After a refusal all values but `code` are 0. */
+struct galtuyeg_report {
+    uint64_t code;
+    uint64_t version;
+    uint64_t capacity; /* user blocks */
+    uint64_t used;     /* allocated user blocks */
+    uint64_t live;     /* logical numbers with contents */
+};
+
+struct galtuyeg_next_live {
+    uint64_t code;
+    uint64_t number;
+};
+
+/* Whether the image is a sound partition: 0 to 5. */
+uint32_t galtuyeg_flash_check(const uint8_t *image, size_t image_len, uint8_t partition);
+
+/* 0 to 5. */
+struct galtuyeg_report galtuyeg_flash_report(const uint8_t *image, size_t image_len, uint8_t partition);
+
+/* The lowest live number not below `from`, which may be any number: 0 to 5, 7. */
+struct galtuyeg_next_live galtuyeg_flash_next_live(const uint8_t *image, size_t image_len, uint8_t partition, uint64_t from);
+
+/* Fills `page`, which is 60 bytes long, with the contents of a number: 0 to 8. */
+uint32_t galtuyeg_flash_read(const uint8_t *image, size_t image_len, uint8_t partition, uint64_t number, uint8_t *page,
+                             size_t page_len);
+
+/* Saves `page`, 60 bytes, as the contents of a number, if these are still what the writer last saw: `expected` is 60 bytes, or 0
+ * for nothing there. 0 to 6, 8, 9. */
+uint32_t galtuyeg_flash_save(uint8_t *image, size_t image_len, uint8_t partition, uint64_t number, const uint8_t *expected,
+                             size_t expected_len, const uint8_t *page, size_t page_len);
+
+/* Compacts the partition: one block for each live number is kept. 0 to 5. */
+uint32_t galtuyeg_flash_erase(uint8_t *image, size_t image_len, uint8_t partition);
+
+/* ---- Memory cards: images of 131,072 bytes.
+ *
+ * Numbers: 0 done; 20 length; 21 and 22 root block; 23 to 25 allocation table; 26 directory entry; 27 chain; 28 block in two
+ * files; 29 name twice; 30 game rule; 31 no such file, or no entry left; 32 index too high; 33 length of name or block buffer.
+ * `place_kind` says what `place` is. After a refusal all values but `code`, `place_kind` and `place` are 0. */
+
+#define GALTUYEG_NAME_BYTES 12
+#define GALTUYEG_TIME_BYTES 8
+#define GALTUYEG_BLOCK_BYTES 512
+
+enum galtuyeg_place_kind {
+    GALTUYEG_WHOLE_CARD = 0, /* `place` is 0 */
+    GALTUYEG_BLOCK = 1,
+    GALTUYEG_DIRECTORY_ENTRY = 2
+};
+
+struct galtuyeg_card_check {
+    uint64_t code;
+    uint64_t place_kind;
+    uint64_t place;
+    uint64_t orphans; /* user blocks in use by no file */
+};
+
+struct galtuyeg_card_entry {
+    uint64_t code;
+    uint64_t place_kind;
+    uint64_t place;
+    uint64_t entry; /* 0 to 207 */
+    uint64_t type;  /* 0x33 data, 0xCC game */
+    uint64_t flag;  /* copy flag */
+    uint64_t first; /* first block */
+    uint64_t size;  /* in blocks */
+    uint64_t offset;
+    uint8_t name[GALTUYEG_NAME_BYTES]; /* not ended by a 0 */
+    uint8_t time[GALTUYEG_TIME_BYTES];
+};
+
+struct galtuyeg_card_verdict {
+    uint64_t code;
+    uint64_t place_kind;
+    uint64_t place;
+};
+
+/* Whether the card is sound: 0, 20 to 30. */
+struct galtuyeg_card_check galtuyeg_card_check(const uint8_t *card, size_t card_len);
+
+/* The first used directory entry from entry `from` on, which may be any number: 0, 20 to 31. */
+struct galtuyeg_card_entry galtuyeg_card_list(const uint8_t *card, size_t card_len, uint64_t from);
+
+/* Fills `block`, 512 bytes, with block `index` of the file of this name, 12 bytes: 0, 20 to 30, then 33, 31, 32. */
+struct galtuyeg_card_verdict galtuyeg_card_read(const uint8_t *card, size_t card_len, const uint8_t *name, size_t name_len,
+                                                uint64_t index, uint8_t *block, size_t block_len);
+
+#ifdef __cplusplus
+}
+#endif
+
+#endif
