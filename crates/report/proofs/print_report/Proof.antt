@@ -1,0 +1,37 @@
+-- `print_report` meets its contract. Assumes nothing.
+use Rattle.report_text.specs.Text.{reportText}
+use Rattle.report.proofs.InputLaws.{start-length}
+use Rattle.report.proofs.PrintLaws.{text-within}
+use borrow.Author.Needs.{needs}
+use Rattle.report.proofs.print_report.Statement.{statement}
+use Rattle.report.proofs.print_report.Tie as tie
+
+write-report-requires : tie.Need-write-report-requires
+write-report-requires c κs = search needs
+
+array-share-prefix-text : tie.Need-array-share-prefix-text
+array-share-prefix-text c =
+    let s = c .before .before .before in
+    text-within (reportText (s .args .image .now)) _ (c .write-report .ensures .0) (c .write-report .ensures .1)
+
+slice-aggregate-print : tie.Need-slice-aggregate-print
+slice-aggregate-print c =
+    let w = c .before in
+    let s = w .before .before .before in
+    start-length _ _ (text-within (reportText (s .args .image .now)) _ (w .write-report .ensures .0) (w .write-report .ensures .1))
+
+print-requires : tie.Need-print-requires
+print-requires c κs = search needs
+
+returns : tie.Need-returns
+returns c = search needs
+
+pub print-report-spec : {M : Type 1} → statement M
+print-report-spec =
+    tie.close
+    (tie.spec
+    write-report-requires
+    array-share-prefix-text
+    slice-aggregate-print
+    print-requires
+    returns)

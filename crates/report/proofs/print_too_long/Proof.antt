@@ -1,0 +1,31 @@
+-- `print_too_long` meets its contract. Assumes nothing.
+use Rattle.report.proofs.InputLaws.{start-length}
+use Rattle.report.proofs.PrintLaws.{long-within}
+use borrow.Author.Needs.{needs}
+use Rattle.report.proofs.print_too_long.Statement.{statement}
+use Rattle.report.proofs.print_too_long.Tie as tie
+
+write-too-long-requires : tie.Need-write-too-long-requires
+write-too-long-requires c κs = search needs
+
+array-share-prefix-text : tie.Need-array-share-prefix-text
+array-share-prefix-text c = let w = c .write-too-long in long-within _ (w .ensures .0) (w .ensures .1)
+
+slice-aggregate-print : tie.Need-slice-aggregate-print
+slice-aggregate-print c = let w = c .before .write-too-long in start-length _ _ (long-within _ (w .ensures .0) (w .ensures .1))
+
+print-requires : tie.Need-print-requires
+print-requires c κs = search needs
+
+returns : tie.Need-returns
+returns c = search needs
+
+pub print-too-long-spec : {M : Type 1} → statement M
+print-too-long-spec =
+    tie.close
+    (tie.spec
+    write-too-long-requires
+    array-share-prefix-text
+    slice-aggregate-print
+    print-requires
+    returns)

@@ -1,0 +1,107 @@
+-- `read_image` meets its contract: what is read never passes the buffer's end. Assumes nothing.
+use Prim.Native.Nat.{_-_, _≤_}
+use mathlib.Core.Path.{_≡_, refl, _∙_}
+use native.Mathlib.Omega.{arith}
+use lib.ListN.{length}
+use Rattle.report.proofs.InputLaws.{part-back, part-held}
+use borrow.Author.Needs.{needs}
+use Rattle.report.proofs.read_image.Statement.{statement}
+use Rattle.report.proofs.read_image.Tie as tie
+
+abbrev Inv-loop : tie.InvT-loop
+Inv-loop image₀ done₀ image done = (done ≤ length image) × (length image ≡ length image₀)
+
+abbrev μ-loop : tie.MeasureT-loop
+μ-loop image₀ done₀ image done = length image - done
+
+loop-holds : tie.Need-loop-holds Inv-loop μ-loop
+loop-holds c = (omega arith, refl)
+
+sub-read-some : tie.Need-sub-read-some Inv-loop μ-loop
+sub-read-some c = search needs
+
+part-read-some-start : tie.Need-part-read-some-start Inv-loop μ-loop
+part-read-some-start c = search needs
+
+part-read-some-end : tie.Need-part-read-some-end Inv-loop μ-loop
+part-read-some-end c = search needs
+
+read-some-requires : tie.Need-read-some-requires Inv-loop μ-loop
+read-some-requires c κs = search needs
+
+enum-known-got : tie.Need-enum-known-got Inv-loop μ-loop
+enum-known-got c = search needs
+
+enum-told : tie.Need-enum-told Inv-loop μ-loop
+enum-told c = search needs
+
+same-length : tie.Need-same-length Inv-loop μ-loop
+same-length c = search needs
+
+returns : tie.Need-returns Inv-loop μ-loop
+returns c = tt
+
+same-length-2 : tie.Need-same-length-2 Inv-loop μ-loop
+same-length-2 c = search needs
+
+returns-2 : tie.Need-returns-2 Inv-loop μ-loop
+returns-2 c =
+    let r = c .before .before .before .before .before .before in
+    let l = r .before .before .before in
+    omega (arith, part-back (l .loop .image) (r .read-some .last .0) (l .loop .done) (r .read-some .kept .0), l .loop .inv .0)
+
+add-done : tie.Need-add-done Inv-loop μ-loop
+add-done c =
+    let g = c .before .before in
+    let r = g .before .before .before .before in
+    let l = r .before .before .before in
+    omega (arith, part-held (l .loop .image) (r .read-some .last .0) (l .loop .done) (r .read-some .kept .0) _ _ (r .read-some .ensures) (g .got .given .1) (l .loop .inv .0))
+
+loop-less : tie.Need-loop-less Inv-loop μ-loop
+loop-less c =
+    let g = c .before .before in
+    let r = g .before .before .before .before in
+    let l = r .before .before .before in
+    omega (arith, part-back (l .loop .image) (r .read-some .last .0) (l .loop .done) (r .read-some .kept .0), c .if1 .left)
+
+loop-again : tie.Need-loop-again Inv-loop μ-loop
+loop-again c =
+    let g = c .before .before in
+    let r = g .before .before .before .before in
+    let l = r .before .before .before in
+    let back = part-back (l .loop .image) (r .read-some .last .0) (l .loop .done) (r .read-some .kept .0) in
+    let more = part-held (l .loop .image) (r .read-some .last .0) (l .loop .done) (r .read-some .kept .0) _ _ (r .read-some .ensures) (g .got .given .1) (l .loop .inv .0) in
+    (omega (arith, more, back), back ∙ l .loop .inv .1)
+
+read-past-requires : tie.Need-read-past-requires Inv-loop μ-loop
+read-past-requires c κs = search needs
+
+same-length-3 : tie.Need-same-length-3 Inv-loop μ-loop
+same-length-3 c = search needs
+
+returns-3 : tie.Need-returns-3 Inv-loop μ-loop
+returns-3 c = c .read-past .ensures
+
+pub read-image-spec : {M : Type 1} → statement M
+read-image-spec =
+    tie.close
+    (tie.spec
+    Inv-loop
+    μ-loop
+    loop-holds
+    sub-read-some
+    part-read-some-start
+    part-read-some-end
+    read-some-requires
+    enum-known-got
+    enum-told
+    same-length
+    returns
+    same-length-2
+    returns-2
+    add-done
+    loop-less
+    loop-again
+    read-past-requires
+    same-length-3
+    returns-3)

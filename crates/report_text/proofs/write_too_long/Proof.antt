@@ -1,0 +1,22 @@
+-- `write_too_long` meets its contract. Assumes nothing.
+use mathlib.Core.Path.{_≡_}
+use lib.ListN.{length}
+use Rattle.report_text.proofs.TextLaws.{long-fits, long-written}
+use borrow.Author.Needs.{needs}
+use Rattle.report_text.proofs.write_too_long.Statement.{statement}
+use Rattle.report_text.proofs.write_too_long.Tie as tie
+
+slice-aggregate-put-line : tie.Need-slice-aggregate-put-line
+slice-aggregate-put-line c = search needs
+
+put-line-requires : tie.Need-put-line-requires
+put-line-requires c κs =
+    let s = c .before .before in
+    let long : length (s .args .out .now) ≡ 12288 = search needs in
+    long-fits _ long
+
+returns : tie.Need-returns
+returns c = (λ image h. long-written (c .put-line .ensures) image h .0, λ image h. long-written (c .put-line .ensures) image h .1)
+
+pub write-too-long-spec : {M : Type 1} → statement M
+write-too-long-spec = tie.close (tie.spec slice-aggregate-put-line put-line-requires returns)
