@@ -372,4 +372,5 @@ def main():
     programs[sys.argv[1]]()
 
 
-main()
+if __name__ == "__main__":
+    main()
