@@ -1,2 +1,1 @@
 pub mod DirectoryLaws
-pub mod PrintLaws

@@ -1,7 +1,6 @@
-// The directory of a card: its entries one by one, searches by use and by name, and refusals 26, 29 and 30.
+// The directory of a card: its entries one by one, searches by use and by name, and refusals 26 and 30.
 pub mod entry;
 mod games;
-pub mod names;
 pub mod search;
 
 use crate::entry::entry_at;

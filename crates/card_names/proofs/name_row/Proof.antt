@@ -9,11 +9,11 @@ use Rattle.verdicts.specs.declared.Place.the-variants.{Entry}
 use Rattle.verdicts.specs.Rows.{rowOver}
 use Rattle.card_model.specs.Layout.{directoryOf}
 use Rattle.card_model.specs.Entries.{nameTaken, nameRow}
-use Rattle.card_directory.specs.Prints.{Printed, firstTaken}
-use Rattle.card_directory.proofs.PrintLaws.{printed-next}
+use Rattle.card_names.specs.Prints.{Printed, firstTaken}
+use Rattle.card_names.proofs.PrintLaws.{printed-next}
 use borrow.Author.Needs.{needs}
-use Rattle.card_directory.proofs.names.name_row.Statement.{statement}
-use Rattle.card_directory.proofs.names.name_row.Tie as tie
+use Rattle.card_names.proofs.name_row.Statement.{statement}
+use Rattle.card_names.proofs.name_row.Tie as tie
 
 abbrev Inv-loop : tie.InvT-loop
 Inv-loop card prints₀ i₀ prints i =

@@ -3,11 +3,11 @@ use mathlib.Core.Path.{sym, _∙_}
 use borrow.Author.Tests.{not-true, not-false}
 use Rattle.card_model.specs.Layout.{directoryOf}
 use Rattle.card_model.specs.Entries.{nameOf}
 use Rattle.card_directory.proofs.DirectoryLaws.{found-some, found-none, unused-name, used-name}
-use Rattle.card_directory.proofs.PrintLaws.{unseen-name}
+use Rattle.card_names.proofs.PrintLaws.{unseen-name}
 use borrow.Author.Needs.{needs}
-use Rattle.card_directory.proofs.names.name_taken.Statement.{statement}
-use Rattle.card_directory.proofs.names.name_taken.Tie as tie
+use Rattle.card_names.proofs.name_taken.Statement.{statement}
+use Rattle.card_names.proofs.name_taken.Tie as tie
 
 entry-at-requires : tie.Need-entry-at-requires
 entry-at-requires c κs = search needs

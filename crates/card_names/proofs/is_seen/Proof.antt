@@ -9,8 +9,8 @@ use lib.ListN.{getD}
 use Rattle.words.specs.Lists.{anyOf, numbersFrom}
 use Rattle.words.proofs.LoopLaws.{numbers-next, any-end}
 use borrow.Author.Needs.{needs}
-use Rattle.card_directory.proofs.names.is_seen.Statement.{statement}
-use Rattle.card_directory.proofs.names.is_seen.Tie as tie
+use Rattle.card_names.proofs.is_seen.Statement.{statement}
+use Rattle.card_names.proofs.is_seen.Tie as tie
 
 abbrev same : List ℕ → ℕ → ℕ → Bool
 same prints i j = eqb (getD prints j 0) (getD prints i 0)

@@ -2,10 +2,10 @@
 use mathlib.Core.Path.{sym, _∙_}
 use borrow.Author.Tests.{not-true, not-false}
 use Rattle.card_model.specs.Entries.{nameOf}
-use Rattle.card_directory.specs.Prints.{printOf}
+use Rattle.card_names.specs.Prints.{printOf}
 use borrow.Author.Needs.{needs}
-use Rattle.card_directory.proofs.names.print_of.Statement.{statement}
-use Rattle.card_directory.proofs.names.print_of.Tie as tie
+use Rattle.card_names.proofs.print_of.Statement.{statement}
+use Rattle.card_names.proofs.print_of.Tie as tie
 
 is-used-requires : tie.Need-is-used-requires
 is-used-requires c κs = search needs

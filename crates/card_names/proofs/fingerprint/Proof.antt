@@ -1,8 +1,8 @@
 -- `fingerprint` meets its contract. Assumes nothing.
-use Rattle.card_directory.specs.Prints.{fingerprint}
+use Rattle.card_names.specs.Prints.{fingerprint}
 use borrow.Author.Needs.{needs}
-use Rattle.card_directory.proofs.names.fingerprint.Statement.{statement}
-use Rattle.card_directory.proofs.names.fingerprint.Tie as tie
+use Rattle.card_names.proofs.fingerprint.Statement.{statement}
+use Rattle.card_names.proofs.fingerprint.Tie as tie
 
 word-requires : tie.Need-word-requires
 word-requires c κs = search needs

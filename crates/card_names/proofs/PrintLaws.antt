@@ -16,8 +16,8 @@ use Rattle.words.proofs.Bools.{and-true-left, and-true-right}
 use Rattle.words.proofs.SearchLaws.{any-lowest, lowest-none, lowest-nothing}
 use Rattle.words.proofs.WordLaws.{same-eq}
 use Rattle.card_model.specs.Entries.{nameOf, isUsed, entryAt, isNamed, nameTaken}
-use Rattle.card_directory.specs.Prints.{fingerprint, printOf, Printed}
+use Rattle.card_names.specs.Prints.{fingerprint, printOf, Printed}
 use Rattle.card_directory.proofs.DirectoryLaws.{used-name}
 
 same-print : (d e : List ℕ) → isUsed e ≡ true → isNamed (nameOf e) d ≡ true → printOf d ≡ printOf e
 unfolding isNamed printOf

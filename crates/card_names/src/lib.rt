@@ -1,8 +1,8 @@
 // Refusal 29. Each name has a fingerprint, one number: names are compared only where an earlier fingerprint is the same.
-use crate::entry::entry_at;
-use crate::entry::is_used;
-use crate::search::FoundEntry;
-use crate::search::find_named;
+use card_directory::entry::entry_at;
+use card_directory::entry::is_used;
+use card_directory::search::FoundEntry;
+use card_directory::search::find_named;
 use verdicts::Place;
 use verdicts::Verdict;
 use verdicts::done;
@@ -15,7 +15,7 @@ ghost use lib.ListN.{length, getD};
 ghost use Rattle.words.specs.Lists.{anyOf, numbersFrom};
 ghost use Rattle.card_model.specs.Layout.{directoryOf};
 ghost use Rattle.card_model.specs.Entries.{nameTaken, nameRow};
-ghost use Rattle.card_directory.specs.Prints as shortcut;
+ghost use Rattle.card_names.specs.Prints as shortcut;
 
 // Any function of the name would do. These weights add up to less than 65536, so that the sum fits, and by them similar names
 // seldom have the same one.
