@@ -1,0 +1,137 @@
+//! The library's calls as they are, one function each, over slices of any length.
+//!
+//! A call answers the paper's number: 0 when it is done, else the refusal's, and then no byte of any
+//! buffer has changed.
+//!
+//! What the library asks of a caller is what Rust's borrows give: a slice's bytes are there, written by
+//! nobody else during the call, and a `&mut` overlaps no other buffer. Two shared slices may overlap,
+//! which the library's header excludes: [`flash_save`] and [`card_read`] then lend it a copy of the
+//! shorter one.
+
+use crate::ffi;
+
+pub use crate::ffi::{CardCheck, CardEntry, CardVerdict, NextLive, Report};
+
+/// Whether the image is a sound partition of this number: 0 to 5.
+pub fn flash_check(image: &[u8], partition: u8) -> u32 {
+    // SAFETY: pointer and length are of one slice, borrowed for the call, which only reads it.
+    unsafe { ffi::galtuyeg_flash_check(image.as_ptr(), image.len(), partition) }
+}
+
+/// Version, capacity, used and live: 0 to 5.
+pub fn flash_report(image: &[u8], partition: u8) -> Report {
+    // SAFETY: pointer and length are of one slice, borrowed for the call, which only reads it.
+    unsafe { ffi::galtuyeg_flash_report(image.as_ptr(), image.len(), partition) }
+}
+
+/// The lowest live number not below `from`, which may be any number: 0 to 5, 7.
+pub fn flash_next_live(image: &[u8], partition: u8, from: u64) -> NextLive {
+    // SAFETY: pointer and length are of one slice, borrowed for the call, which only reads it.
+    unsafe { ffi::galtuyeg_flash_next_live(image.as_ptr(), image.len(), partition, from) }
+}
+
+/// Fills `page`, which is to be 60 bytes long, with the contents of a number: 0 to 8.
+pub fn flash_read(image: &[u8], partition: u8, number: u64, page: &mut [u8]) -> u32 {
+    // SAFETY: each pointer and length are of one slice, borrowed for the call; only `page` is written,
+    // and it overlaps nothing, being a `&mut`.
+    unsafe {
+        ffi::galtuyeg_flash_read(
+            image.as_ptr(),
+            image.len(),
+            partition,
+            number,
+            page.as_mut_ptr(),
+            page.len(),
+        )
+    }
+}
+
+/// Saves `page`, 60 bytes, as the contents of a number, if these are still what the writer last saw:
+/// `expected` is 60 bytes, or 0 for nothing there. 0 to 6, 8, 9.
+pub fn flash_save(
+    image: &mut [u8],
+    partition: u8,
+    number: u64,
+    expected: &[u8],
+    page: &[u8],
+) -> u32 {
+    if !overlap(expected, page) {
+        return save_apart(image, partition, number, expected, page);
+    }
+    // Every length above 60 is refused alike, so 61 bytes stand for any of them.
+    let mut copy = [0; 61];
+    let kept = expected.len().min(copy.len());
+    copy[..kept].copy_from_slice(&expected[..kept]);
+    save_apart(image, partition, number, &copy[..kept], page)
+}
+
+/// Compacts the partition, keeping one block for each live number: 0 to 5.
+pub fn flash_erase(image: &mut [u8], partition: u8) -> u32 {
+    // SAFETY: pointer and length are of one slice, borrowed alone for the call.
+    unsafe { ffi::galtuyeg_flash_erase(image.as_mut_ptr(), image.len(), partition) }
+}
+
+/// Whether the card is sound, and its number of orphans: 0, 20 to 30.
+pub fn card_check(card: &[u8]) -> CardCheck {
+    // SAFETY: pointer and length are of one slice, borrowed for the call, which only reads it.
+    unsafe { ffi::galtuyeg_card_check(card.as_ptr(), card.len()) }
+}
+
+/// The first used directory entry from entry `from` on, which may be any number: 0, 20 to 31.
+pub fn card_list(card: &[u8], from: u64) -> CardEntry {
+    // SAFETY: pointer and length are of one slice, borrowed for the call, which only reads it.
+    unsafe { ffi::galtuyeg_card_list(card.as_ptr(), card.len(), from) }
+}
+
+/// Fills `block`, 512 bytes, with block `index` of the file of this name, 12 bytes: 0, 20 to 30, then
+/// 33, 31, 32.
+pub fn card_read(card: &[u8], name: &[u8], index: u64, block: &mut [u8]) -> CardVerdict {
+    if !overlap(card, name) {
+        return read_apart(card, name, index, block);
+    }
+    // Every length above 12 is refused alike, so 13 bytes stand for any of them.
+    let mut copy = [0; 13];
+    let kept = name.len().min(copy.len());
+    copy[..kept].copy_from_slice(&name[..kept]);
+    read_apart(card, &copy[..kept], index, block)
+}
+
+fn overlap(one: &[u8], other: &[u8]) -> bool {
+    let (one, other) = (one.as_ptr_range(), other.as_ptr_range());
+    one.start < other.end && other.start < one.end
+}
+
+/// `expected` and `page` must not overlap: the header asks it, though the call writes neither.
+fn save_apart(image: &mut [u8], partition: u8, number: u64, expected: &[u8], page: &[u8]) -> u32 {
+    // SAFETY: each pointer and length are of one slice, borrowed for the call; only `image` is written,
+    // and it overlaps nothing, being a `&mut`.
+    unsafe {
+        ffi::galtuyeg_flash_save(
+            image.as_mut_ptr(),
+            image.len(),
+            partition,
+            number,
+            expected.as_ptr(),
+            expected.len(),
+            page.as_ptr(),
+            page.len(),
+        )
+    }
+}
+
+/// `card` and `name` must not overlap: the header asks it, though the call writes neither.
+fn read_apart(card: &[u8], name: &[u8], index: u64, block: &mut [u8]) -> CardVerdict {
+    // SAFETY: each pointer and length are of one slice, borrowed for the call; only `block` is written,
+    // and it overlaps nothing, being a `&mut`.
+    unsafe {
+        ffi::galtuyeg_card_read(
+            card.as_ptr(),
+            card.len(),
+            name.as_ptr(),
+            name.len(),
+            index,
+            block.as_mut_ptr(),
+            block.len(),
+        )
+    }
+}

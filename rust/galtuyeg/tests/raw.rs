@@ -1,0 +1,94 @@
+//! The calls as they are: the numbers and buffers that the wrapper hands on, and shared slices that
+//! overlap.
+
+use galtuyeg::raw::{self, CardCheck, CardEntry, CardVerdict, NextLive, Report};
+
+/// A formatted partition 3: header, and a bitmap of free blocks.
+fn formatted() -> Vec<u8> {
+    let mut image = vec![0xff; 32_768];
+    image[..16].copy_from_slice(b"KATANA_FLASH____");
+    image[16] = 3;
+    image[17] = 1;
+    image
+}
+
+#[test]
+fn a_page_saved_is_read_and_reported() {
+    let mut image = formatted();
+    assert_eq!(raw::flash_check(&image, 3), 0);
+    assert_eq!(raw::flash_save(&mut image, 3, 24, &[], &[1; 60]), 0);
+    assert_eq!(raw::flash_save(&mut image, 3, 24, &[1; 60], &[2; 60]), 0);
+    let mut page = [0; 60];
+    assert_eq!(raw::flash_read(&image, 3, 24, &mut page), 0);
+    assert_eq!(page, [2; 60]);
+    let report = raw::flash_report(&image, 3);
+    let expected = Report {
+        code: 0,
+        version: 1,
+        capacity: 510,
+        used: 2,
+        live: 1,
+    };
+    assert_eq!(report, expected);
+    let next = raw::flash_next_live(&image, 3, 3);
+    assert_eq!(
+        next,
+        NextLive {
+            code: 0,
+            number: 24
+        }
+    );
+    assert_eq!(raw::flash_erase(&mut image, 3), 0);
+    assert_eq!(raw::flash_report(&image, 3).used, 1);
+}
+
+#[test]
+fn a_refusal_leaves_the_buffers_and_zeros() {
+    let mut image = formatted();
+    let mut page = [7; 60];
+    assert_eq!(raw::flash_read(&image, 3, 510, &mut page), 6);
+    assert_eq!(raw::flash_read(&image, 3, 24, &mut page[..59]), 8);
+    assert_eq!(raw::flash_read(&image, 3, u64::MAX, &mut page), 6);
+    assert_eq!(raw::flash_save(&mut image, 3, 24, &[1; 60], &page), 9);
+    assert_eq!(raw::flash_erase(&mut image, 2), 3);
+    assert_eq!(image, formatted());
+    assert_eq!(page, [7; 60]);
+    let next = raw::flash_next_live(&image, 3, u64::MAX);
+    assert_eq!(next, NextLive { code: 7, number: 0 });
+}
+
+#[test]
+fn empty_slices_are_refused_by_length() {
+    assert_eq!(raw::flash_check(&[], 3), 1);
+    assert_eq!(raw::flash_save(&mut [], 3, 0, &[], &[]), 1);
+    let checked = raw::card_check(&[]);
+    let refused = CardCheck {
+        code: 20,
+        place_kind: 0,
+        place: 0,
+        orphans: 0,
+    };
+    assert_eq!(checked, refused);
+    let CardEntry { code, name, .. } = raw::card_list(&[], u64::MAX);
+    assert_eq!((code, name), (20, [0; 12]));
+    let CardVerdict { code, .. } = raw::card_read(&[], &[], 0, &mut []);
+    assert_eq!(code, 20);
+}
+
+#[test]
+fn shared_slices_may_overlap() {
+    let mut image = formatted();
+    let bytes: Vec<u8> = (0..=255).collect();
+    assert_eq!(raw::flash_save(&mut image, 3, 0, &[], &bytes[..60]), 0);
+    let saved = raw::flash_save(&mut image, 3, 0, &bytes[..60], &bytes[..60]);
+    assert_eq!(saved, 0);
+    let saved = raw::flash_save(&mut image, 3, 0, &bytes[..60], &bytes[30..90]);
+    assert_eq!(saved, 0);
+    let mut page = [0; 60];
+    assert_eq!(raw::flash_read(&image, 3, 0, &mut page), 0);
+    assert_eq!(page, bytes[30..90]);
+    for long in [1, 59, 61, 62, 256] {
+        let saved = raw::flash_save(&mut image, 3, 0, &bytes[..long], &bytes[..60]);
+        assert_eq!(saved, 8);
+    }
+}
