@@ -1,0 +1,344 @@
+//! VMU memory cards: images of 131,072 bytes, 256 blocks of 512.
+//!
+//! ```
+//! use galtuyeg::card::{self, Place, Reason};
+//!
+//! # let mut bytes = vec![0; 131_072];
+//! # bytes[130_560..130_576].fill(0x55);
+//! # for (at, value) in [(0x46, 254), (0x48, 1), (0x4a, 253), (0x4c, 13), (0x50, 200)] {
+//! #     bytes[130_560 + at] = value;
+//! # }
+//! # for block in 0..256 {
+//! #     let link: u16 = match block {
+//! #         0 | 241 | 254 | 255 => 0xfffa,
+//! #         242..=253 => block - 1,
+//! #         _ => 0xfffc,
+//! #     };
+//! #     let at = 130_048 + 2 * usize::from(block);
+//! #     bytes[at..at + 2].copy_from_slice(&link.to_le_bytes());
+//! # }
+//! # let entry = &mut bytes[253 * 512..][..32];
+//! # entry[0] = 0x33;
+//! # entry[4..16].copy_from_slice(b"SETTINGS.DAT");
+//! # entry[24] = 1;
+//! # let card = bytes.as_mut_slice();
+//! // `card` is a sound card with one file, a block long.
+//! let mut block = [0; 512];
+//! for entry in card::entries(card)? {
+//!     for index in 0..entry.size {
+//!         card::read(card, &entry.name, index.into(), &mut block)?;
+//!     }
+//! }
+//!
+//! // Its root block spoiled, it is refused, and the refusal says where.
+//! card[255 * 512] = 0;
+//! let refusal = card::check(card).unwrap_err();
+//! assert_eq!(refusal.reason, Reason::Format);
+//! assert_eq!(refusal.place, Place::Block(255));
+//! assert_eq!(refusal.number(), 21);
+//! # Ok::<(), card::Refusal>(())
+//! ```
+
+use std::error::Error;
+use std::fmt;
+use std::iter::FusedIterator;
+
+use crate::contract::{broken, byte, word};
+use crate::raw;
+
+/// Bytes in a file's name.
+pub const NAME_BYTES: usize = 12;
+/// Bytes in a file's time.
+pub const TIME_BYTES: usize = 8;
+/// Bytes in a block.
+pub const BLOCK_BYTES: usize = 512;
+
+/// What is wrong with a card, or with what was asked of it. [`Reason::Length`] to [`Reason::Game`] are
+/// tested in this order, each over the whole card before the next; then [`Reason::BufferLength`],
+/// [`Reason::NoFile`] and [`Reason::Index`].
+#[derive(Clone, Copy, Debug, PartialEq, Eq, Hash)]
+pub enum Reason {
+    /// 20: the card isn't 131,072 bytes long.
+    Length,
+    /// 21: the root block's first 16 bytes aren't all 55.
+    Format,
+    /// 22: the root block's fields are wrong.
+    Root,
+    /// 23: a table entry of blocks 241 to 255 is wrong.
+    SystemBlock,
+    /// 24: a table entry of blocks 200 to 240 is neither FFFC nor FFFF.
+    HiddenBlock,
+    /// 25: a table entry of a user block is none of FFFC, FFFF, FFFA and 0 to 199.
+    UserBlock,
+    /// 26: a bad directory entry.
+    Entry,
+    /// 27: a chain that doesn't end at the file's size.
+    Chain,
+    /// 28: a block that is in an earlier entry's file also.
+    SharedBlock,
+    /// 29: an earlier entry's name.
+    SameName,
+    /// 30: a game that isn't the only one, or isn't blocks 0 and up in order, or is above 128 blocks.
+    Game,
+    /// 31: no file of that name.
+    NoFile,
+    /// 32: the block index isn't below the file's size.
+    Index,
+    /// 33: name or block buffer of the wrong length. No function of this module is refused so, since its
+    /// types have the length; [`raw`]'s are.
+    BufferLength,
+}
+
+impl Reason {
+    /// All reasons, in the order of their numbers.
+    pub const ALL: [Reason; 14] = [
+        Reason::Length,
+        Reason::Format,
+        Reason::Root,
+        Reason::SystemBlock,
+        Reason::HiddenBlock,
+        Reason::UserBlock,
+        Reason::Entry,
+        Reason::Chain,
+        Reason::SharedBlock,
+        Reason::SameName,
+        Reason::Game,
+        Reason::NoFile,
+        Reason::Index,
+        Reason::BufferLength,
+    ];
+
+    /// The paper's number, 20 to 33.
+    pub fn number(self) -> u32 {
+        match self {
+            Reason::Length => 20,
+            Reason::Format => 21,
+            Reason::Root => 22,
+            Reason::SystemBlock => 23,
+            Reason::HiddenBlock => 24,
+            Reason::UserBlock => 25,
+            Reason::Entry => 26,
+            Reason::Chain => 27,
+            Reason::SharedBlock => 28,
+            Reason::SameName => 29,
+            Reason::Game => 30,
+            Reason::NoFile => 31,
+            Reason::Index => 32,
+            Reason::BufferLength => 33,
+        }
+    }
+
+    /// The reason of this number, if there is one.
+    pub fn from_number(number: u32) -> Option<Reason> {
+        Reason::ALL
+            .into_iter()
+            .find(|reason| reason.number() == number)
+    }
+}
+
+impl fmt::Display for Reason {
+    fn fmt(&self, f: &mut fmt::Formatter<'_>) -> fmt::Result {
+        f.write_str(match self {
+            Reason::Length => "the card is not 131,072 bytes long",
+            Reason::Format => "the root block does not begin with sixteen bytes of 55",
+            Reason::Root => "the root block's fields are wrong",
+            Reason::SystemBlock => "a system block's table entry is wrong",
+            Reason::HiddenBlock => "a hidden block's table entry is neither free nor damaged",
+            Reason::UserBlock => "a user block's table entry says nothing known",
+            Reason::Entry => "bad directory entry",
+            Reason::Chain => "the file's chain does not end at its size",
+            Reason::SharedBlock => "the file has a block of an earlier file",
+            Reason::SameName => "the file has an earlier file's name",
+            Reason::Game => "the game is a second one, out of place or too long",
+            Reason::NoFile => "no file of that name",
+            Reason::Index => "the file has no block of that index",
+            Reason::BufferLength => "a buffer has the wrong length",
+        })
+    }
+}
+
+/// Where on the card a refusal was met.
+#[derive(Clone, Copy, Debug, PartialEq, Eq, Hash)]
+pub enum Place {
+    /// No place of its own.
+    WholeCard,
+    /// This block, 0 to 255.
+    Block(u8),
+    /// This directory entry, 0 to 207.
+    Entry(u8),
+}
+
+impl fmt::Display for Place {
+    fn fmt(&self, f: &mut fmt::Formatter<'_>) -> fmt::Result {
+        match self {
+            Place::WholeCard => f.write_str("whole card"),
+            Place::Block(block) => write!(f, "block {block}"),
+            Place::Entry(entry) => write!(f, "directory entry {entry}"),
+        }
+    }
+}
+
+/// Why a call was refused, and where.
+#[derive(Clone, Copy, Debug, PartialEq, Eq, Hash)]
+pub struct Refusal {
+    /// What is wrong.
+    pub reason: Reason,
+    /// The lowest block or entry that it is wrong of.
+    pub place: Place,
+}
+
+impl Refusal {
+    /// The paper's number, 20 to 33.
+    pub fn number(self) -> u32 {
+        self.reason.number()
+    }
+}
+
+impl fmt::Display for Refusal {
+    fn fmt(&self, f: &mut fmt::Formatter<'_>) -> fmt::Result {
+        let Refusal { reason, place } = self;
+        write!(f, "refused {} ({place}): {reason}", self.number())
+    }
+}
+
+impl Error for Refusal {}
+
+/// What a check says of a sound card.
+#[derive(Clone, Copy, Debug, PartialEq, Eq, Hash)]
+pub struct Checked {
+    /// User blocks that are in use by no file.
+    pub orphans: u8,
+}
+
+/// What a file is.
+#[derive(Clone, Copy, Debug, PartialEq, Eq, Hash)]
+pub enum Kind {
+    /// 33: a save or other data.
+    Data,
+    /// CC: a mini-game, which lies from block 0 on.
+    Game,
+}
+
+/// A used directory entry.
+#[derive(Clone, Copy, Debug, PartialEq, Eq, Hash)]
+pub struct Entry {
+    /// The entry's number, 0 to 207.
+    pub entry: u8,
+    /// Data or game.
+    pub kind: Kind,
+    /// The copy flag, 00 or FF.
+    pub flag: u8,
+    /// The first block, 0 to 199.
+    pub first: u8,
+    /// The size in blocks, 1 to 200.
+    pub size: u8,
+    /// The header offset in blocks: for data below the size, for a game as the card has it.
+    pub offset: u16,
+    /// The name, any bytes.
+    pub name: [u8; NAME_BYTES],
+    /// The time as the card has it, untested.
+    pub time: [u8; TIME_BYTES],
+}
+
+/// Whether the card is sound, and how many orphans it has.
+///
+/// # Errors
+/// [`Refusal`] 20 to 30.
+pub fn check(card: &[u8]) -> Result<Checked, Refusal> {
+    let checked = raw::card_check(card);
+    answered(checked.code, checked.place_kind, checked.place)?;
+    let orphans = byte("a number of orphans", checked.orphans);
+    Ok(Checked { orphans })
+}
+
+/// The first used entry from entry `from` on, which may be any number; `None` where there is none.
+///
+/// # Errors
+/// [`Refusal`] 20 to 30.
+pub fn list(card: &[u8], from: u64) -> Result<Option<Entry>, Refusal> {
+    let listed = raw::card_list(card, from);
+    match answered(listed.code, listed.place_kind, listed.place) {
+        Ok(()) => Ok(Some(entry(&listed))),
+        Err(Refusal {
+            reason: Reason::NoFile,
+            ..
+        }) => Ok(None),
+        Err(refusal) => Err(refusal),
+    }
+}
+
+/// All used entries, rising. Each one takes a [`list`], which checks the whole card.
+///
+/// # Errors
+/// [`Refusal`] 20 to 30.
+pub fn entries(card: &[u8]) -> Result<Entries<'_>, Refusal> {
+    check(card)?;
+    Ok(Entries { card, from: 0 })
+}
+
+/// The used entries of a sound card, rising; [`entries`] gives it.
+#[derive(Clone, Debug)]
+pub struct Entries<'a> {
+    card: &'a [u8],
+    from: u64,
+}
+
+impl Iterator for Entries<'_> {
+    type Item = Entry;
+
+    fn next(&mut self) -> Option<Entry> {
+        // No refusal is met: the card is sound, and borrowed since.
+        let entry = list(self.card, self.from).ok()??;
+        self.from = u64::from(entry.entry) + 1;
+        Some(entry)
+    }
+}
+
+impl FusedIterator for Entries<'_> {}
+
+/// Fills `block` with block `index` of the file of this name.
+///
+/// # Errors
+/// [`Refusal`] 20 to 32. The buffer is then as it was.
+pub fn read(
+    card: &[u8],
+    name: &[u8; NAME_BYTES],
+    index: u64,
+    block: &mut [u8; BLOCK_BYTES],
+) -> Result<(), Refusal> {
+    let verdict = raw::card_read(card, name, index, block);
+    answered(verdict.code, verdict.place_kind, verdict.place)
+}
+
+fn entry(listed: &raw::CardEntry) -> Entry {
+    let kind = match listed.kind {
+        0x33 => Kind::Data,
+        0xcc => Kind::Game,
+        other => broken("the entry type", other),
+    };
+    Entry {
+        entry: byte("the entry", listed.entry),
+        kind,
+        flag: byte("the copy flag", listed.flag),
+        first: byte("the first block", listed.first),
+        size: byte("the size", listed.size),
+        offset: word("the header offset", listed.offset),
+        name: listed.name,
+        time: listed.time,
+    }
+}
+
+fn answered(code: u64, place_kind: u64, place: u64) -> Result<(), Refusal> {
+    if code == 0 {
+        return Ok(());
+    }
+    let reason = u32::try_from(code).ok().and_then(Reason::from_number);
+    let reason = reason.unwrap_or_else(|| broken("the number", code));
+    let place = match place_kind {
+        0 => Place::WholeCard,
+        1 => Place::Block(byte("the block", place)),
+        2 => Place::Entry(byte("the entry", place)),
+        other => broken("the kind of place", other),
+    };
+    Err(Refusal { reason, place })
+}

@@ -1,0 +1,17 @@
+//! What is left to say where the library answers outside its contract. It is proved not to, so this is
+//! about a wrapper linked with a library of another version.
+
+/// Ends the program: an answer nobody can name must not be taken for another.
+pub(crate) fn broken(what: &str, value: u64) -> ! {
+    panic!("the linked library answered {what} {value}, which this wrapper does not know")
+}
+
+/// A value that the contract says fits a byte.
+pub(crate) fn byte(what: &str, value: u64) -> u8 {
+    u8::try_from(value).unwrap_or_else(|_| broken(what, value))
+}
+
+/// A value that the contract says fits two bytes.
+pub(crate) fn word(what: &str, value: u64) -> u16 {
+    u16::try_from(value).unwrap_or_else(|_| broken(what, value))
+}

@@ -1,0 +1,86 @@
+//! The typed calls on a card.
+
+use galtuyeg::card::{self, Checked, Entry, Kind, Place, Reason, Refusal};
+
+const TABLE: usize = 254 * 512;
+const ROOT: usize = 255 * 512;
+const NAME: &[u8; 12] = b"SETTINGS.DAT";
+
+fn put(card: &mut [u8], at: usize, value: u16) {
+    card[at..at + 2].copy_from_slice(&value.to_le_bytes());
+}
+
+/// A sound card with one file, entry 16, of block 199 and then 7; block 9 is an orphan.
+fn sound() -> Vec<u8> {
+    let mut card = vec![0; 131_072];
+    card[ROOT..ROOT + 16].fill(0x55);
+    for (at, value) in [(0x46, 254), (0x48, 1), (0x4a, 253), (0x4c, 13), (0x50, 200)] {
+        put(&mut card, ROOT + at, value);
+    }
+    for block in 0..=255 {
+        let link = match block {
+            7 | 9 | 241 | 254 | 255 => 0xfffa,
+            199 => 7,
+            242..=253 => block - 1,
+            _ => 0xfffc,
+        };
+        put(&mut card, TABLE + 2 * usize::from(block), link);
+    }
+    let entry = &mut card[252 * 512..][..32];
+    (entry[0], entry[2], entry[24]) = (0x33, 199, 2);
+    entry[4..16].copy_from_slice(NAME);
+    card[7 * 512..8 * 512].fill(0xaa);
+    card
+}
+
+#[test]
+fn a_sound_card_is_listed_and_read() {
+    let card = sound();
+    assert_eq!(card::check(&card), Ok(Checked { orphans: 1 }));
+    let entry = Entry {
+        entry: 16,
+        kind: Kind::Data,
+        flag: 0,
+        first: 199,
+        size: 2,
+        offset: 0,
+        name: *NAME,
+        time: [0; 8],
+    };
+    assert!(card::entries(&card).unwrap().eq([entry]));
+    assert_eq!(card::list(&card, 17), Ok(None));
+    let mut block = [0; 512];
+    card::read(&card, NAME, 1, &mut block).unwrap();
+    assert_eq!(block, [0xaa; 512]);
+    let late = card::read(&card, NAME, 2, &mut block).unwrap_err();
+    assert_eq!((late.number(), late.place), (32, Place::WholeCard));
+    let missing = card::read(&card, b"SETTINGS.BAK", 0, &mut block).unwrap_err();
+    assert_eq!(missing.reason, Reason::NoFile);
+}
+
+#[test]
+fn a_name_may_be_lent_from_the_card_itself() {
+    let card = sound();
+    let name = card[252 * 512 + 4..][..12].try_into().unwrap();
+    let mut block = [0; 512];
+    card::read(&card, name, 1, &mut block).unwrap();
+    assert_eq!(block, [0xaa; 512]);
+}
+
+#[test]
+fn a_refusal_has_number_and_place() {
+    let mut card = sound();
+    put(&mut card, TABLE + 2 * 7, 0xfffc);
+    let refusal = card::check(&card).unwrap_err();
+    let expected = Refusal {
+        reason: Reason::Chain,
+        place: Place::Entry(16),
+    };
+    assert_eq!(refusal, expected);
+    let text = "refused 27 (directory entry 16): the file's chain does not end at its size";
+    assert_eq!(refusal.to_string(), text);
+    put(&mut card, TABLE + 2 * 240, 0);
+    let place = card::list(&card, 0).unwrap_err().place;
+    assert_eq!(place, Place::Block(240));
+    assert!(Reason::ALL.map(Reason::number).into_iter().eq(20..=33));
+}
