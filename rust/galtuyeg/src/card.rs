@@ -130,9 +130,7 @@ impl Reason {
 
     /// The reason of this number, if there is one.
     pub fn from_number(number: u32) -> Option<Reason> {
-        Reason::ALL
-            .into_iter()
-            .find(|reason| reason.number() == number)
+        Reason::ALL.into_iter().find(|reason| reason.number() == number)
     }
 }
 
@@ -259,10 +257,7 @@ pub fn list(card: &[u8], from: u64) -> Result<Option<Entry>, Refusal> {
     let listed = raw::card_list(card, from);
     match answered(listed.code, listed.place_kind, listed.place) {
         Ok(()) => Ok(Some(entry(&listed))),
-        Err(Refusal {
-            reason: Reason::NoFile,
-            ..
-        }) => Ok(None),
+        Err(Refusal { reason: Reason::NoFile, .. }) => Ok(None),
         Err(refusal) => Err(refusal),
     }
 }

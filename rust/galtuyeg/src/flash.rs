@@ -69,9 +69,7 @@ impl Refusal {
 
     /// The refusal of this number, if there is one.
     pub fn from_number(number: u32) -> Option<Refusal> {
-        Refusal::ALL
-            .into_iter()
-            .find(|refusal| refusal.number() == number)
+        Refusal::ALL.into_iter().find(|refusal| refusal.number() == number)
     }
 }
 
@@ -149,11 +147,7 @@ pub fn next_live(image: &[u8], partition: u8, from: u64) -> Result<Option<u64>, 
 /// [`Refusal`] 1 to 5.
 pub fn live_numbers(image: &[u8], partition: u8) -> Result<LiveNumbers<'_>, Refusal> {
     check(image, partition)?;
-    Ok(LiveNumbers {
-        image,
-        partition,
-        from: 0,
-    })
+    Ok(LiveNumbers { image, partition, from: 0 })
 }
 
 /// The live numbers of a sound partition, rising; [`live_numbers`] gives it.

@@ -72,10 +72,7 @@ fn a_refusal_has_number_and_place() {
     let mut card = sound();
     put(&mut card, TABLE + 2 * 7, 0xfffc);
     let refusal = card::check(&card).unwrap_err();
-    let expected = Refusal {
-        reason: Reason::Chain,
-        place: Place::Entry(16),
-    };
+    let expected = Refusal { reason: Reason::Chain, place: Place::Entry(16) };
     assert_eq!(refusal, expected);
     let text = "refused 27 (directory entry 16): the file's chain does not end at its size";
     assert_eq!(refusal.to_string(), text);
@@ -83,4 +80,40 @@ fn a_refusal_has_number_and_place() {
     let place = card::list(&card, 0).unwrap_err().place;
     assert_eq!(place, Place::Block(240));
     assert!(Reason::ALL.map(Reason::number).into_iter().eq(20..=33));
+}
+
+#[test]
+fn each_damage_has_its_reason() {
+    let entry = 252 * 512;
+    let damages = [
+        (ROOT, 0, Reason::Format, Place::Block(255)),
+        (ROOT + 0x46, 0, Reason::Root, Place::Block(255)),
+        (TABLE + 2 * 241, 0xfffc, Reason::SystemBlock, Place::Block(241)),
+        (TABLE + 2 * 200, 0, Reason::HiddenBlock, Place::Block(200)),
+        (TABLE, 200, Reason::UserBlock, Place::Block(0)),
+        (entry, 0x34, Reason::Entry, Place::Entry(16)),
+        (entry + 0x18, 1, Reason::Chain, Place::Entry(16)),
+        (entry, 0xcc, Reason::Game, Place::Entry(16)),
+    ];
+    for (at, value, reason, place) in damages {
+        let mut card = sound();
+        put(&mut card, at, value);
+        assert_eq!(card::check(&card), Err(Refusal { reason, place }));
+    }
+    let length = card::check(&sound()[1..]).unwrap_err();
+    assert_eq!(length, Refusal { reason: Reason::Length, place: Place::WholeCard });
+}
+
+#[test]
+fn two_files_may_share_neither_blocks_nor_name() {
+    let mut card = sound();
+    let (one, other) = (252 * 512, 252 * 512 + 32);
+    card.copy_within(one..one + 32, other);
+    let place = Place::Entry(17);
+    let shared = Refusal { reason: Reason::SharedBlock, place };
+    assert_eq!(card::check(&card), Err(shared));
+    put(&mut card, other + 0x02, 9);
+    put(&mut card, other + 0x18, 1);
+    let named = Refusal { reason: Reason::SameName, place };
+    assert_eq!(card::check(&card), Err(named));
 }

@@ -20,12 +20,7 @@ fn saves_are_found_again_after_an_erase() {
     assert_eq!(flash::read(&image, 2, 253), Ok([3; 60]));
     let numbers: Vec<u64> = flash::live_numbers(&image, 2).unwrap().collect();
     assert_eq!(numbers, [0, 253]);
-    let report = Report {
-        version: 0,
-        capacity: 254,
-        used: 2,
-        live: 2,
-    };
+    let report = Report { version: 0, capacity: 254, used: 2, live: 2 };
     assert_eq!(flash::report(&image, 2), Ok(report));
 }
 

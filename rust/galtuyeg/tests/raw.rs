@@ -22,22 +22,10 @@ fn a_page_saved_is_read_and_reported() {
     assert_eq!(raw::flash_read(&image, 3, 24, &mut page), 0);
     assert_eq!(page, [2; 60]);
     let report = raw::flash_report(&image, 3);
-    let expected = Report {
-        code: 0,
-        version: 1,
-        capacity: 510,
-        used: 2,
-        live: 1,
-    };
+    let expected = Report { code: 0, version: 1, capacity: 510, used: 2, live: 1 };
     assert_eq!(report, expected);
     let next = raw::flash_next_live(&image, 3, 3);
-    assert_eq!(
-        next,
-        NextLive {
-            code: 0,
-            number: 24
-        }
-    );
+    assert_eq!(next, NextLive { code: 0, number: 24 });
     assert_eq!(raw::flash_erase(&mut image, 3), 0);
     assert_eq!(raw::flash_report(&image, 3).used, 1);
 }
@@ -62,12 +50,7 @@ fn empty_slices_are_refused_by_length() {
     assert_eq!(raw::flash_check(&[], 3), 1);
     assert_eq!(raw::flash_save(&mut [], 3, 0, &[], &[]), 1);
     let checked = raw::card_check(&[]);
-    let refused = CardCheck {
-        code: 20,
-        place_kind: 0,
-        place: 0,
-        orphans: 0,
-    };
+    let refused = CardCheck { code: 20, place_kind: 0, place: 0, orphans: 0 };
     assert_eq!(checked, refused);
     let CardEntry { code, name, .. } = raw::card_list(&[], u64::MAX);
     assert_eq!((code, name), (20, [0; 12]));
