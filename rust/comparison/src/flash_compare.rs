@@ -1,0 +1,185 @@
+//! The flash calls, each made on both sides and compared.
+
+use galtuyeg::{flash, raw};
+use independent::flash as independent;
+
+use crate::lent::Lent;
+use crate::round::Round;
+use crate::tally::Call;
+
+pub fn check(round: &mut Round, image: &mut Lent, partition: u8) -> u32 {
+    let proved = raw::flash_check(image.proved.get(), partition);
+    let other = independent::check(image.independent.get(), partition);
+    let mut case = round.compare(Call::FlashCheck, format!("partition {partition}"));
+    case.answered(proved.into());
+    case.same("number", proved, other);
+    if case.wants_typed() {
+        let typed = flash::check(image.proved.get(), partition);
+        case.typed(number_of(typed), proved);
+    }
+    case.buffer("image", image, false);
+    proved
+}
+
+pub fn report(round: &mut Round, image: &mut Lent, partition: u8) {
+    let proved = raw::flash_report(image.proved.get(), partition);
+    let other = match independent::report(image.independent.get(), partition) {
+        Ok(report) => raw::Report {
+            code: 0,
+            version: report.version.into(),
+            capacity: report.capacity,
+            used: report.used,
+            live: report.live,
+        },
+        Err(number) => refused_report(number),
+    };
+    let mut case = round.compare(Call::FlashReport, format!("partition {partition}"));
+    case.answered(proved.code);
+    case.same("report", proved, other);
+    if case.wants_typed() {
+        let typed = match flash::report(image.proved.get(), partition) {
+            Ok(report) => raw::Report {
+                code: 0,
+                version: report.version.into(),
+                capacity: report.capacity.into(),
+                used: report.used.into(),
+                live: report.live.into(),
+            },
+            Err(refusal) => refused_report(refusal.number()),
+        };
+        case.typed(typed, proved);
+    }
+    case.buffer("image", image, false);
+}
+
+pub fn next_live(round: &mut Round, image: &mut Lent, partition: u8, from: u64) -> Option<u64> {
+    let proved = raw::flash_next_live(image.proved.get(), partition, from);
+    let other = match independent::next_live(image.independent.get(), partition, from) {
+        Ok(number) => raw::NextLive { code: 0, number },
+        Err(number) => refused_next(number),
+    };
+    let asked = format!("partition {partition} from {from}");
+    let mut case = round.compare(Call::FlashNextLive, asked);
+    case.answered(proved.code);
+    case.same("next live", proved, other);
+    if case.wants_typed() {
+        let typed = match flash::next_live(image.proved.get(), partition, from) {
+            Ok(Some(number)) => raw::NextLive { code: 0, number },
+            Ok(None) => refused_next(7),
+            Err(refusal) => refused_next(refusal.number()),
+        };
+        case.typed(typed, proved);
+    }
+    case.buffer("image", image, false);
+    (proved.code == 0).then_some(proved.number)
+}
+
+/// What the proved library answered, and what it left in a page buffer that held `page`.
+pub fn read(
+    round: &mut Round,
+    image: &mut Lent,
+    partition: u8,
+    number: u64,
+    page: &[u8],
+) -> (u32, Vec<u8>) {
+    let mut page = round.lend(page);
+    let proved = raw::flash_read(image.proved.get(), partition, number, page.proved.get_mut());
+    let other =
+        independent::read(image.independent.get(), partition, number, page.independent.get_mut());
+    let length = page.before().len();
+    let asked = format!("partition {partition} number {number} page of {length}");
+    let mut case = round.compare(Call::FlashRead, asked);
+    case.answered(proved.into());
+    case.same("number", proved, other);
+    if length == flash::PAGE_BYTES && case.wants_typed() {
+        let typed = match flash::read(image.proved.get(), partition, number) {
+            Ok(read) => (0, read.to_vec()),
+            Err(refusal) => (refusal.number(), page.before().to_vec()),
+        };
+        case.typed(typed, (proved, page.proved.get().to_vec()));
+    }
+    case.buffer("image", image, false);
+    case.buffer("page", &mut page, proved == 0);
+    (proved, page.before().to_vec())
+}
+
+/// What a save brings.
+pub struct Save<'a> {
+    pub partition: u8,
+    pub number: u64,
+    pub expected: &'a [u8],
+    pub page: &'a [u8],
+}
+
+pub fn save(round: &mut Round, image: &mut Lent, asked: &Save) -> u32 {
+    let Save { partition, number, .. } = *asked;
+    let mut expected = round.lend(asked.expected);
+    let mut page = round.lend(asked.page);
+    let proved = raw::flash_save(
+        image.proved.get_mut(),
+        partition,
+        number,
+        expected.proved.get(),
+        page.proved.get(),
+    );
+    let other = independent::save(
+        image.independent.get_mut(),
+        partition,
+        number,
+        expected.independent.get(),
+        page.independent.get(),
+    );
+    let lengths = (asked.expected.len(), asked.page.len());
+    let text = format!("partition {partition} number {number} expected and page of {lengths:?}");
+    let mut case = round.compare(Call::FlashSave, text);
+    case.answered(proved.into());
+    case.same("number", proved, other);
+    if case.wants_typed() {
+        if let Some(typed) = typed_save(image.before(), asked) {
+            case.typed(typed, (proved, image.proved.get().to_vec()));
+        }
+    }
+    case.buffer("image", image, proved == 0);
+    case.buffer("expected", &mut expected, false);
+    case.buffer("page", &mut page, false);
+    proved
+}
+
+pub fn erase(round: &mut Round, image: &mut Lent, partition: u8) -> u32 {
+    let proved = raw::flash_erase(image.proved.get_mut(), partition);
+    let other = independent::erase(image.independent.get_mut(), partition);
+    let mut case = round.compare(Call::FlashErase, format!("partition {partition}"));
+    case.answered(proved.into());
+    case.same("number", proved, other);
+    if case.wants_typed() {
+        let mut copy = image.before().to_vec();
+        let typed = number_of(flash::erase(&mut copy, partition));
+        case.typed((typed, copy), (proved, image.proved.get().to_vec()));
+    }
+    case.buffer("image", image, proved == 0);
+    proved
+}
+
+/// The typed save's number and the image it leaves, if its types can say what is asked.
+fn typed_save(image: &[u8], asked: &Save) -> Option<(u32, Vec<u8>)> {
+    let page = asked.page.try_into().ok()?;
+    let expected = match asked.expected {
+        [] => None,
+        seen => Some(seen.try_into().ok()?),
+    };
+    let mut copy = image.to_vec();
+    let answer = flash::save(&mut copy, asked.partition, asked.number, expected, page);
+    Some((number_of(answer), copy))
+}
+
+fn number_of(answer: Result<(), flash::Refusal>) -> u32 {
+    answer.map_or_else(flash::Refusal::number, |()| 0)
+}
+
+fn refused_report(number: u32) -> raw::Report {
+    raw::Report { code: number.into(), version: 0, capacity: 0, used: 0, live: 0 }
+}
+
+fn refused_next(number: u32) -> raw::NextLive {
+    raw::NextLive { code: number.into(), number: 0 }
+}

@@ -1,0 +1,75 @@
+//! A run of calls by two writers on one image. Each remembers what it last saw of a number and saves
+//! with that, so it is refused 9 where the other has saved since.
+
+use std::collections::BTreeMap;
+
+use crate::flash_compare::{self as compare, Save};
+use crate::flash_inputs::{any_page, number, page, partition_number, PAGE};
+use crate::flash_rounds::{ask_read, ask_whole};
+use crate::lent::Lent;
+use crate::round::Round;
+
+/// What a writer last saw of each number, no bytes for nothing.
+type Memory = BTreeMap<u64, Vec<u8>>;
+
+pub fn run(round: &mut Round, image: &mut Lent, own: u8, top: u64) {
+    let count = round.prng.within(1..=12);
+    let pool: Vec<u64> = (0..count).map(|_| number(&mut round.prng, top)).collect();
+    let mut writers = [Memory::new(), Memory::new()];
+    let steps = round.prng.within(100..=600);
+    for _ in 0..steps {
+        let memory = &mut writers[round.prng.below(2)];
+        let asked = round.prng.pick(&pool);
+        match round.prng.below(32) {
+            0..=6 => look(round, image, own, asked, memory),
+            7..=24 => save(round, image, own, asked, memory),
+            25..=26 => ask_whole(round, image, own),
+            27 => ask_read(round, image, own, top),
+            28..=29 => list(round, image, own, top),
+            30 => improper_save(round, image, own, asked),
+            _ => compact(round, image, own),
+        }
+    }
+}
+
+fn look(round: &mut Round, image: &mut Lent, own: u8, asked: u64, memory: &mut Memory) {
+    let (answer, page) = compare::read(round, image, own, asked, &[0; PAGE]);
+    match answer {
+        0 => memory.insert(asked, page),
+        _ => memory.insert(asked, Vec::new()),
+    };
+}
+
+/// After a refusal the writer looks again, at times.
+fn save(round: &mut Round, image: &mut Lent, own: u8, asked: u64, memory: &mut Memory) {
+    let expected = memory.get(&asked).cloned().unwrap_or_default();
+    let page = page(&mut round.prng);
+    let save = Save { partition: own, number: asked, expected: &expected, page: &page };
+    let answer = compare::save(round, image, &save);
+    if answer == 0 {
+        memory.insert(asked, page.to_vec());
+    } else if round.prng.one_in(2) {
+        look(round, image, own, asked, memory);
+    }
+}
+
+fn list(round: &mut Round, image: &mut Lent, own: u8, top: u64) {
+    let from = number(&mut round.prng, top);
+    let partition = partition_number(&mut round.prng, own);
+    compare::next_live(round, image, partition, from);
+}
+
+fn improper_save(round: &mut Round, image: &mut Lent, own: u8, asked: u64) {
+    let save = Save {
+        partition: partition_number(&mut round.prng, own),
+        number: asked,
+        expected: &any_page(&mut round.prng),
+        page: &any_page(&mut round.prng),
+    };
+    compare::save(round, image, &save);
+}
+
+fn compact(round: &mut Round, image: &mut Lent, own: u8) {
+    let partition = partition_number(&mut round.prng, own);
+    compare::erase(round, image, partition);
+}

@@ -1,0 +1,161 @@
+//! Buffers as they are lent: with guard bytes on both sides, at any alignment, a copy for each side.
+
+use std::hint::black_box;
+
+use crate::prng::Prng;
+
+const GUARD: usize = 64;
+
+/// A buffer between guard bytes.
+pub struct Guarded {
+    bytes: Vec<u8>,
+    start: usize,
+    end: usize,
+}
+
+impl Guarded {
+    fn new(content: &[u8], guard: usize, shift: usize) -> Guarded {
+        let start = guard + shift;
+        let end = start + content.len();
+        let mut bytes = vec![0; end + guard];
+        for (at, byte) in bytes.iter_mut().enumerate() {
+            *byte = pattern(at);
+        }
+        bytes[start..end].copy_from_slice(content);
+        Guarded { bytes, start, end }
+    }
+
+    pub fn get(&self) -> &[u8] {
+        &self.bytes[self.start..self.end]
+    }
+
+    pub fn get_mut(&mut self) -> &mut [u8] {
+        &mut self.bytes[self.start..self.end]
+    }
+
+    /// Where the first guard byte that changed stands, from the buffer's first byte.
+    fn broken_guard(&self) -> Option<isize> {
+        let mut guards = (0..self.start).chain(self.end..self.bytes.len());
+        let at = guards.find(|&at| self.bytes[at] != pattern(at))?;
+        Some(at as isize - self.start as isize)
+    }
+}
+
+/// Half of the buffers begin where an allocation may, the others anywhere, odd places included.
+fn shift(prng: &mut Prng) -> usize {
+    match prng.one_in(2) {
+        true => 0,
+        false => prng.below(16),
+    }
+}
+
+fn pattern(at: usize) -> u8 {
+    (at as u8).wrapping_mul(151) ^ 0x5b
+}
+
+/// One buffer as both sides are lent it: a copy each, and what it held before the call.
+pub struct Lent {
+    pub proved: Guarded,
+    pub independent: Guarded,
+    before: Vec<u8>,
+}
+
+impl Lent {
+    pub fn new(content: &[u8], bare: bool, prng: &mut Prng) -> Lent {
+        let guard = if bare { 0 } else { GUARD };
+        Lent {
+            proved: Guarded::new(content, guard, shift(prng)),
+            independent: Guarded::new(content, guard, shift(prng)),
+            before: content.to_vec(),
+        }
+    }
+
+    pub fn before(&self) -> &[u8] {
+        &self.before
+    }
+
+    /// What is wrong after a call, if anything. Where the buffer may not have changed it is compared
+    /// with what it held, else one side's copy with the other's.
+    pub fn fault(&mut self, may_change: bool) -> Option<String> {
+        // A call that was lent the buffer shared may have written it all the same.
+        black_box(&mut self.proved.bytes);
+        black_box(&mut self.independent.bytes);
+        let (proved, independent) = (&self.proved, &self.independent);
+        if let Some(at) = proved.broken_guard() {
+            return Some(format!("the proved library wrote outside, at {at}"));
+        }
+        if let Some(at) = independent.broken_guard() {
+            return Some(format!("the independent one wrote outside, at {at}"));
+        }
+        let both = differing(proved.get(), independent.get())
+            .map(|at| format!("proved and independent differ {at}"));
+        if may_change {
+            return both;
+        }
+        both.or_else(|| {
+            differing(&self.before, proved.get())
+                .map(|at| format!("refused or shared, but changed {at}"))
+        })
+    }
+
+    /// Takes the bytes as they are now for those before the next call. After a difference both sides go
+    /// on from the proved library's, so that one fault is not reported again and again.
+    pub fn settle(&mut self) {
+        self.before.copy_from_slice(self.proved.get());
+        self.independent.get_mut().copy_from_slice(&self.before);
+    }
+
+    /// Changes the bytes between two calls, for both sides.
+    pub fn change(&mut self, change: impl FnOnce(&mut [u8])) {
+        change(self.proved.get_mut());
+        self.settle();
+    }
+}
+
+fn differing(one: &[u8], other: &[u8]) -> Option<String> {
+    if one == other {
+        return None;
+    }
+    let at = one.iter().zip(other).position(|(a, b)| a != b)?;
+    Some(format!("from byte {at}: {:02x} and {:02x}", one[at], other[at]))
+}
+
+#[cfg(test)]
+mod tests {
+    use super::*;
+
+    fn lent() -> Lent {
+        Lent::new(&[7; 60], false, &mut Prng::new(1, 1))
+    }
+
+    #[test]
+    fn writes_beside_a_buffer_are_seen() {
+        for past in [true, false] {
+            let mut buffer = lent();
+            let side = &mut buffer.proved;
+            let at = if past { side.end } else { side.start - 1 };
+            side.bytes[at] ^= 1;
+            let fault = buffer.fault(true).unwrap();
+            assert!(fault.contains("outside"), "{fault}");
+        }
+    }
+
+    #[test]
+    fn a_change_on_one_side_is_seen() {
+        let mut buffer = lent();
+        assert_eq!(buffer.fault(false), None);
+        buffer.independent.get_mut()[59] = 8;
+        assert!(buffer.fault(true).unwrap().contains("from byte 59"));
+        buffer.settle();
+        assert_eq!(buffer.fault(false), None);
+    }
+
+    #[test]
+    fn a_change_on_both_sides_is_seen_where_none_may_be() {
+        let mut buffer = lent();
+        buffer.proved.get_mut()[0] = 8;
+        buffer.independent.get_mut()[0] = 8;
+        assert_eq!(buffer.fault(true), None);
+        assert!(buffer.fault(false).unwrap().contains("changed"));
+    }
+}

@@ -1,0 +1,102 @@
+//! Runs the proved library and the independent implementation on the same inputs and compares every
+//! answer, every value and every byte of every buffer.
+
+mod args;
+mod card_builder;
+mod card_compare;
+mod card_damage;
+mod card_rounds;
+mod flash_compare;
+mod flash_damage;
+mod flash_inputs;
+mod flash_rounds;
+mod flash_writers;
+mod lent;
+mod prng;
+mod round;
+mod tally;
+
+use std::env;
+use std::panic::{catch_unwind, AssertUnwindSafe};
+use std::process::ExitCode;
+
+use args::{Args, Asked};
+use round::Round;
+use tally::Tally;
+
+/// The least times each number is answered in a whole run.
+const LEAST: u64 = 1_000;
+
+/// What the rounds do in turn.
+const TURNS: [fn(&mut Round); 20] = [
+    flash_rounds::lengths,
+    flash_rounds::built,
+    flash_rounds::built,
+    flash_rounds::built,
+    flash_rounds::grown,
+    flash_rounds::grown,
+    flash_rounds::full,
+    flash_rounds::writers,
+    card_rounds::lengths,
+    card_rounds::sound,
+    card_rounds::sound,
+    card_rounds::aimed,
+    card_rounds::aimed,
+    card_rounds::aimed,
+    card_rounds::aimed,
+    card_rounds::aimed,
+    card_rounds::aimed,
+    card_rounds::aimed,
+    card_rounds::battered,
+    card_rounds::battered,
+];
+
+fn main() -> ExitCode {
+    match args::parse(env::args().skip(1)) {
+        Ok(Asked::Run(args)) => run(&args),
+        Ok(Asked::Help) => {
+            println!("{}", args::HELP);
+            ExitCode::SUCCESS
+        }
+        Err(why) => {
+            eprintln!("{why}\n\n{}", args::HELP);
+            ExitCode::from(2)
+        }
+    }
+}
+
+fn run(args: &Args) -> ExitCode {
+    let mut tally = Tally::new();
+    for number in args.range() {
+        play(args, number, &mut tally);
+    }
+    print!("{}", tally.table());
+    println!("seed {}, rounds {:?}", args.seed, args.range());
+    let few = tally.below(least(args));
+    if !few.is_empty() {
+        println!("answered fewer than {} times: {}", least(args), few.join(", "));
+    }
+    match tally.differences() == 0 && few.is_empty() {
+        true => ExitCode::SUCCESS,
+        false => ExitCode::FAILURE,
+    }
+}
+
+/// A shorter run answers for its share, a single round for none.
+fn least(args: &Args) -> u64 {
+    match args.only {
+        Some(_) => 0,
+        None => LEAST * args.rounds.min(args::DEFAULT_ROUNDS) / args::DEFAULT_ROUNDS,
+    }
+}
+
+/// A round that panics, on whichever side, is a difference too: no input may end a call so.
+fn play(args: &Args, number: u64, tally: &mut Tally) {
+    let mut round = Round::new(args.seed, number, args.bare, tally);
+    let turn = TURNS[(number % TURNS.len() as u64) as usize];
+    let played = catch_unwind(AssertUnwindSafe(|| turn(&mut round)));
+    if played.is_err() {
+        println!("DIFFERENCE --seed {} --only {number}: a panic", args.seed);
+        tally.count_difference();
+    }
+}
