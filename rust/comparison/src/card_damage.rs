@@ -70,9 +70,9 @@ fn directory_entry(prng: &mut Prng, card: &mut Card) {
     match prng.below(5) {
         0 => bytes[0] = prng.pick_or_byte(&[1, 0x32, 0x34, 0xcd, 0xff]),
         1 => bytes[1] = prng.pick_or_byte(&[1, 0x7f, 0xfe]),
-        2 => put(bytes, 0x02, prng.pick(&[200, 201, 255, 256, 0x1_00 + size, 0xffff])),
-        3 => put(bytes, 0x18, prng.pick(&[0, 201, 256, 0x1_00 + size, 0xffff])),
-        _ => put(bytes, 0x1a, prng.pick(&[size, size + 1, 0x1_00, 0xffff])),
+        2 => put(bytes, 0x02, prng.pick(&[200, 201, 255, 256, 0x100 + size, 0xffff])),
+        3 => put(bytes, 0x18, prng.pick(&[0, 201, 256, 0x100 + size, 0xffff])),
+        _ => put(bytes, 0x1a, prng.pick(&[size, size + 1, 0x100, 0xffff])),
     }
 }
 

@@ -41,14 +41,14 @@ pub fn aimed(round: &mut Round) {
     ask_everything(round, &mut image, &card);
 }
 
-/// Several damages, where the order of refusals and of places decides.
+/// Several damages aimed near each other, where the order of refusals and of places decides.
 pub fn battered(round: &mut Round) {
     let shape = Shape::rich(&mut round.prng);
     let mut card = Card::build(&mut round.prng, &shape);
-    let lowest = round.prng.below(TARGETS.len());
-    let times = round.prng.within(1..=4);
+    let near = round.prng.below(TARGETS.len() - 2);
+    let times = round.prng.within(2..=4);
     for _ in 0..times {
-        let target = round.prng.pick(&TARGETS[lowest..]);
+        let target = round.prng.pick(&TARGETS[near..near + 3]);
         aim(&mut round.prng, &mut card, target);
     }
     let bits = round.prng.pick(&[0, 0, 1, 3]);

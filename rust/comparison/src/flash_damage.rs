@@ -16,12 +16,12 @@ impl Damage {
 
     /// Anything at all, header and bitmap included.
     pub fn any(&self, prng: &mut Prng, bytes: &mut [u8]) {
-        match prng.below(7) {
+        match prng.below(9) {
             0 => prng.flip_bit(&mut bytes[..16]),
             1 => bytes[16] = prng.pick_or_byte(&[self.number ^ 1]),
-            2 => bytes[17] = prng.pick(&[0, 1, 2, 3, 0x80, 0xff]),
-            3 => self.hole(prng, bytes),
-            4 => prng.flip_bit(bytes),
+            2 | 3 => bytes[17] = prng.pick(&[0, 1, 2, 3, 0x80, 0xff]),
+            4 | 5 => self.hole(prng, bytes),
+            6 => prng.flip_bit(bytes),
             _ => self.blocks(prng, bytes),
         }
     }

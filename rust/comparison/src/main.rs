@@ -82,11 +82,12 @@ fn run(args: &Args) -> ExitCode {
     }
 }
 
-/// A shorter run answers for its share, a single round for none.
+/// A shorter run answers for half its share, since it varies more, and a single round for none.
 fn least(args: &Args) -> u64 {
-    match args.only {
-        Some(_) => 0,
-        None => LEAST * args.rounds.min(args::DEFAULT_ROUNDS) / args::DEFAULT_ROUNDS,
+    match (args.only, args.rounds) {
+        (Some(_), _) => 0,
+        (None, args::DEFAULT_ROUNDS..) => LEAST,
+        (None, fewer) => LEAST * fewer / args::DEFAULT_ROUNDS / 2,
     }
 }
 
