@@ -106,9 +106,9 @@ impl Partition {
     }
 
     fn stir_ignored_bits(&mut self, prng: &mut Prng) {
-        let past = self.bitmap..self.bytes.len() / BLOCK * 2;
-        for place in past {
-            if bit_place(self.bitmap, place).0 < self.bytes.len() && prng.one_in(2) {
+        let bits = 8 * (self.bytes.len() - self.bitmap * BLOCK);
+        for place in self.bitmap..=bits {
+            if prng.one_in(2) {
                 flip_bitmap_bit(&mut self.bytes, self.bitmap, place);
             }
         }
