@@ -4,9 +4,7 @@
 //! buffer has changed.
 //!
 //! What the library asks of a caller is what Rust's borrows give: a slice's bytes are there, written by
-//! nobody else during the call, and a `&mut` overlaps no other buffer. Two shared slices may overlap,
-//! which the library's header excludes: [`flash_save`] and [`card_read`] then lend it a copy of the
-//! shorter one.
+//! nobody else during the call, and a `&mut` overlaps no other buffer. Two shared slices may overlap.
 
 use crate::ffi;
 
@@ -55,14 +53,20 @@ pub fn flash_save(
     expected: &[u8],
     page: &[u8],
 ) -> u32 {
-    if !overlap(expected, page) {
-        return save_apart(image, partition, number, expected, page);
+    // SAFETY: each pointer and length are of one slice, borrowed for the call; only `image` is written,
+    // and it overlaps nothing, being a `&mut`.
+    unsafe {
+        ffi::galtuyeg_flash_save(
+            image.as_mut_ptr(),
+            image.len(),
+            partition,
+            number,
+            expected.as_ptr(),
+            expected.len(),
+            page.as_ptr(),
+            page.len(),
+        )
     }
-    // Every length above 60 is refused alike, so 61 bytes stand for any of them.
-    let mut copy = [0; 61];
-    let kept = expected.len().min(copy.len());
-    copy[..kept].copy_from_slice(&expected[..kept]);
-    save_apart(image, partition, number, &copy[..kept], page)
 }
 
 /// Compacts the partition, keeping one block for each live number: 0 to 5.
@@ -86,41 +90,6 @@ pub fn card_list(card: &[u8], from: u64) -> CardEntry {
 /// Fills `block`, 512 bytes, with block `index` of the file of this name, 12 bytes: 0, 20 to 30, then
 /// 33, 31, 32.
 pub fn card_read(card: &[u8], name: &[u8], index: u64, block: &mut [u8]) -> CardVerdict {
-    if !overlap(card, name) {
-        return read_apart(card, name, index, block);
-    }
-    // Every length above 12 is refused alike, so 13 bytes stand for any of them.
-    let mut copy = [0; 13];
-    let kept = name.len().min(copy.len());
-    copy[..kept].copy_from_slice(&name[..kept]);
-    read_apart(card, &copy[..kept], index, block)
-}
-
-fn overlap(one: &[u8], other: &[u8]) -> bool {
-    let (one, other) = (one.as_ptr_range(), other.as_ptr_range());
-    one.start < other.end && other.start < one.end
-}
-
-/// `expected` and `page` must not overlap: the header asks it, though the call writes neither.
-fn save_apart(image: &mut [u8], partition: u8, number: u64, expected: &[u8], page: &[u8]) -> u32 {
-    // SAFETY: each pointer and length are of one slice, borrowed for the call; only `image` is written,
-    // and it overlaps nothing, being a `&mut`.
-    unsafe {
-        ffi::galtuyeg_flash_save(
-            image.as_mut_ptr(),
-            image.len(),
-            partition,
-            number,
-            expected.as_ptr(),
-            expected.len(),
-            page.as_ptr(),
-            page.len(),
-        )
-    }
-}
-
-/// `card` and `name` must not overlap: the header asks it, though the call writes neither.
-fn read_apart(card: &[u8], name: &[u8], index: u64, block: &mut [u8]) -> CardVerdict {
     // SAFETY: each pointer and length are of one slice, borrowed for the call; only `block` is written,
     // and it overlaps nothing, being a `&mut`.
     unsafe {
