@@ -8,7 +8,7 @@
  * What the caller answers for:
  * - A buffer is a pointer and the length behind it in bytes; so many bytes must be there, writable where the pointer is not to
  *   const. A pointer may be NULL where its length is 0, and only there.
- * - Buffers of one call must not overlap. Only two that it does not write, as expected page and new page, may be the same.
+ * - Buffers of one call must not overlap. Only two that it does not write may, as expected page and new page.
  * - Nobody else writes a lent buffer while a call runs, and nobody reads one that the call may write.
  * Nothing is kept between calls: there is no handle to open or close, and calls on buffers of their own may run at the same time.
  */
