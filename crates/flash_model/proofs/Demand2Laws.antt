@@ -1,13 +1,11 @@
 -- Demand 2, from the laws of saves and of answered calls. Assumes nothing.
 use Prim.Native.Nat.{ℕ, _≤_}
 use mathlib.Core.Path.{_≡_, refl, sym, ap, subst, _∙_}
-use mathlib.Core.Bool.{Bool, true, false, not, _||_, true≢false, false≢true}
+use mathlib.Core.Bool.{true, false, not, true≢false, false≢true}
 use mathlib.Core.List.{List, [], _∷_, _++_}
 use mathlib.Core.Option.{Option, none, some}
-use mathlib.Core.Logic.{_↔_, _≢_}
-use native.Mathlib.Omega.{arith}
+use mathlib.Core.Logic.{_↔_, _≢_, _⊎_, inl, inr}
 use native.Mathlib.Decide.{ℕ-discrete}
-use lib.Dec.{eqb}
 use lib.ListN.{length}
 use borrow.Author.Tests.{eq-eqb, ne-eqb}
 use Rattle.words.specs.Lists.{isSome, toList}
@@ -15,19 +13,20 @@ use Rattle.flash_model.specs.Measures.{capacity, topNumber}
 use Rattle.flash_model.specs.UserBlock.{newBlock}
 use Rattle.flash_model.specs.Partition.{headerNumber, version, bitmapOf, allocated, row, refusal, Sound, contents, live, used, lowestLive}
 use Rattle.flash_model.specs.Update.{appendBlock, appended, holders, otherHolders, compacted, savedAt, saved, erased}
-use Rattle.flash_model.specs.Calls.{Call, Reply, first, changedSince, codeOf, changedImage, Answered}
+use Rattle.flash_model.specs.Calls.{Call, Reply, first, codeOf, changedImage, Answered}
 use Rattle.flash_model.specs.Calls.{PageCall.read, PageCall.save, WholeCall.check, WholeCall.report, WholeCall.nextLive, WholeCall.erase, Call.onPage, Call.onWhole}
 use Rattle.flash_model.specs.PageStore.{expectedPage}
-use Rattle.flash_model.specs.Demands.{NextLiveIs, SavedAs, ErasedAs, LowestFreeBlank, AppendedAt, CompactedAs, ProperSave, namedBy, ReadOnly, SaveDone, Demand2}
-use Rattle.flash_model.proofs.MeasureLaws.{legal-le, le-legal}
+use Rattle.flash_model.specs.Demands.{NextLiveIs, SavedAs, ErasedAs, LowestFreeBlank, AppendedAt, CompactedAs, ProperSave, RightLengths, SaveCodes, namedBy, ReadOnly, SaveDone, Demand2}
+use Rattle.flash_model.proofs.MeasureLaws.{legal-le}
 use Rattle.flash_model.proofs.BitmapLaws.{free-bit}
 use Rattle.flash_model.proofs.BlockLaws.{new-length}
 use Rattle.flash_model.proofs.SoundLaws.{sound-measured, row-passed}
 use Rattle.flash_model.proofs.AppendLaws.{bit-falls, bit-other, appended-block, bytes-below, bytes-above, appended-length}
 use Rattle.flash_model.proofs.CompactLaws.{compacted-as}
 use Rattle.flash_model.proofs.SaveLaws.{append-blank, blank-append, holders-writable, others-writable, erased-keeps, erased-contents, saved-keeps, saved-contents}
-use Rattle.flash_model.proofs.CallLaws.{answered-code, accepted-image, accepted-values, accepted-buffers, refused-image, refused-buffers, refused-values, first-zero, first-refused, unrefused-sound, read-rows, save-rows, same-seen, seen-same}
+use Rattle.flash_model.proofs.CallLaws.{answered-code, accepted-image, accepted-values, accepted-buffers, refused-image, refused-buffers, refused-values, first-zero, first-refused, unrefused-sound, read-rows, save-rows}
 use Rattle.flash_model.proofs.MeaningLaws.{contents-length, next-live, none-live}
+use Rattle.flash_model.proofs.RowLaws.{read-codes, save-codes}
 
 pub refused-first : (image : List ℕ) (c : Call) → refusal image (namedBy c) ≢ 0 → codeOf image c ≡ refusal image (namedBy c)
 unfolding codeOf
@@ -169,32 +168,21 @@ module _ (image : List ℕ) (n : ℕ) (page image′ : List ℕ) (done : SaveDon
 -- ---- refused as changed
 
 module _ (image : List ℕ) (partition n : ℕ) (expected page : List ℕ) (p : ProperSave image partition n expected page) where
-  -- only the last row is left
-  last-row : codeOf image (onPage (save partition n expected page)) ≡ row 9 (changedSince image n expected) 0
-  unfolding codeOf
-  last-row =
-      let s : refusal image partition ≡ 0 = subst (λ (q : ℕ). refusal image q ≡ 0) (p .is-named) (p .is-sound) in
-      rw (s, le-legal (length image) n (p .in-range), p .page-length, right-length (ℕ-discrete (length expected) 0))
+  codes : SaveCodes image n expected page (codeOf image (onPage (save partition n expected page)))
+  codes = save-codes image partition n expected page (subst (λ (q : ℕ). refusal image q ≡ 0) (p .is-named) (p .is-sound))
+
+  right-lengths : RightLengths expected page
+  right-lengths = (p .page-length, go (ℕ-discrete (length expected) 0))
     where
-      right-length : Dec (length expected ≡ 0) → (eqb (length expected) 0 || eqb (length expected) 60) ≡ true
-      right-length (yes e) = rw e
-      right-length (no d) = rw (p .expected-length d)
+      go : Dec (length expected ≡ 0) → (length expected ≡ 0) ⊎ (length expected ≡ 60)
+      go (yes e) = inl e
+      go (no d) = inr (p .expected-length d)
 
-  long-contents : (q : List ℕ) → contents image n ≡ some q → length q ≡ 60
-  long-contents q e = contents-length image (p .is-sound) n q e
+  refused-as-changed : (codeOf image (onPage (save partition n expected page)) ≡ 9) ↔ (expectedPage expected ≢ contents image n)
+  refused-as-changed = (λ c. codes .row-9 .0 c .2, λ d. codes .row-9 .1 (p .in-range, right-lengths, d))
 
-  rows : (t : Bool) → changedSince image n expected ≡ t
-      → ((codeOf image (onPage (save partition n expected page)) ≡ 9) ↔ (expectedPage expected ≢ contents image n))
-      × ((codeOf image (onPage (save partition n expected page)) ≡ 0) ↔ (expectedPage expected ≡ contents image n))
-  unfolding changedSince
-  rows true e =
-      let nine : codeOf image (onPage (save partition n expected page)) ≡ 9 = last-row ∙ rw e in
-      let no-longer : expectedPage expected ≢ contents image n = λ q. true≢false (sym e ∙ seen-same (contents image n) long-contents expected q) in
-      ((λ c. no-longer, λ d. nine), (λ c. absurd (omega (arith, nine, c)), λ q. absurd (no-longer q)))
-  rows false e =
-      let zero-code : codeOf image (onPage (save partition n expected page)) ≡ 0 = last-row ∙ rw e in
-      let still : expectedPage expected ≡ contents image n = same-seen (contents image n) long-contents expected e in
-      ((λ c. absurd (omega (arith, zero-code, c)), λ d. absurd (d still)), (λ c. still, λ q. zero-code))
+  accepted-unchanged : (codeOf image (onPage (save partition n expected page)) ≡ 0) ↔ (expectedPage expected ≡ contents image n)
+  accepted-unchanged = (λ c. codes .row-0 .0 c .2, λ d. codes .row-0 .1 (p .in-range, right-lengths, d))
 
 -- ---- an accepted erase
 
@@ -218,6 +206,8 @@ pub demand2 : Demand2
 demand2 = record {
   refused-first = refused-first;
   whole-accepted = whole-accepted;
+  read-codes = read-codes;
+  save-codes = save-codes;
   refusal-keeps = λ image c image′ answer a n.
       (refused-image image c image′ answer a n, refused-buffers image c image′ answer a n, refused-values image c image′ answer a n);
   read-only-keeps = read-only-keeps;
@@ -228,7 +218,7 @@ demand2 = record {
   save-keeps = save-keeps;
   save-appends = λ image n page image′ k done b. save-appends image n page image′ done k b;
   save-compacts = save-compacts;
-  refused-as-changed = λ image partition n expected page p. rows image partition n expected page p (changedSince image n expected) refl .0;
-  accepted-unchanged = λ image partition n expected page p. rows image partition n expected page p (changedSince image n expected) refl .1;
+  refused-as-changed = refused-as-changed;
+  accepted-unchanged = accepted-unchanged;
   erase-keeps = erase-keeps;
 }

@@ -13,6 +13,7 @@ pub mod SaveLaws
 pub mod CallLaws
 pub mod RefusalLaws
 pub mod MeaningLaws
+pub mod RowLaws
 pub mod Demand2Laws
 pub mod StoreLaws
 pub mod RunLaws

@@ -6,7 +6,7 @@ use mathlib.Core.List.{List, [], _∷_}
 use native.Mathlib.Omega.{arith}
 use native.Mathlib.Decide.{decLe}
 use lib.Dec.{eqb, leb, ltb}
-use borrow.Author.Tests.{eqb-true, leb-true, le-leb, lt-leb, lt-ltb, le-ltb, not-false}
+use borrow.Author.Tests.{eqb-true, leb-true, leb-false, le-leb, lt-leb, lt-ltb, le-ltb, not-false}
 use Rattle.words.specs.Lists.{anyOf}
 use Rattle.words.proofs.Bools.{and-true-left, and-true-right, or-false-left, or-false-right}
 use Rattle.flash_model.specs.Measures.{sizes, legalSize, blocks, bitmapBlocks, firstBitmap, capacity, topNumber, legalNumber}
@@ -62,6 +62,10 @@ le-legal size n h = le-leb n (topNumber size) h
 pub above-illegal : (size n : ℕ) → topNumber size < n → legalNumber size n ≡ false
 unfolding legalNumber
 above-illegal size n h = lt-leb n (topNumber size) h
+
+pub illegal-above : (size n : ℕ) → legalNumber size n ≡ false → topNumber size < n
+unfolding legalNumber
+illegal-above size n e = leb-false n (topNumber size) e
 
 pub legal-below : (size n : ℕ) → Measured size → legalNumber size n ≡ ltb n (capacity size)
 unfolding legalNumber

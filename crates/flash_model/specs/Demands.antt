@@ -154,6 +154,36 @@ pub record ProperSave (image : List ℕ) (partition n : ℕ) (expected page : Li
   pub page-length : length page ≡ 60
   pub expected-length : (length expected ≢ 0) → length expected ≡ 60
 
+-- What a read's number says where 1 to 5 don't apply: the later rows of "Numbers the bench will see", each "given exactly when",
+-- and none before its turn: "then 6, 8, then 7 or 9".
+pub record ReadCodes (image : List ℕ) (n : ℕ) (buffer : List ℕ) (code : ℕ) : Type 0 where
+  -- "logical number above M-2"
+  pub row-6 : (code ≡ 6) ↔ (topNumber (length image) < n)
+  -- "page buffer not 60 bytes"
+  pub row-8 : (code ≡ 8) ↔ ((n ≤ topNumber (length image)) × (length buffer ≢ 60))
+  -- "read or next-live: nothing there"
+  pub row-7 : (code ≡ 7) ↔ ((n ≤ topNumber (length image)) × (length buffer ≡ 60) × (contents image n ≡ none))
+  -- "done"
+  pub row-0 : (code ≡ 0) ↔ ((n ≤ topNumber (length image)) × (length buffer ≡ 60) × (contents image n ≢ none))
+
+-- The buffers of a save.
+abbrev pub WrongLengths : List ℕ → List ℕ → Type 0
+WrongLengths expected page = (length page ≢ 60) ⊎ ((length expected ≢ 0) × (length expected ≢ 60))
+
+abbrev pub RightLengths : List ℕ → List ℕ → Type 0
+RightLengths expected page = (length page ≡ 60) × ((length expected ≡ 0) ⊎ (length expected ≡ 60))
+
+-- What a save's number says where 1 to 5 don't apply.
+pub record SaveCodes (image : List ℕ) (n : ℕ) (expected page : List ℕ) (code : ℕ) : Type 0 where
+  -- "logical number above M-2"
+  pub row-6 : (code ≡ 6) ↔ (topNumber (length image) < n)
+  -- "page buffer not 60 bytes, or last-seen neither 0 nor 60"
+  pub row-8 : (code ≡ 8) ↔ ((n ≤ topNumber (length image)) × WrongLengths expected page)
+  -- "save: contents differ from last-seen, or one of them is nothing and the other isn't"
+  pub row-9 : (code ≡ 9) ↔ ((n ≤ topNumber (length image)) × RightLengths expected page × (expectedPage expected ≢ contents image n))
+  -- "done"
+  pub row-0 : (code ≡ 0) ↔ ((n ≤ topNumber (length image)) × RightLengths expected page × (expectedPage expected ≡ contents image n))
+
 -- The partition number that a call names.
 abbrev pub namedBy : Call → ℕ
 namedBy (onPage (read partition n buffer)) = partition
@@ -185,6 +215,11 @@ pub record Demand2 : Type 0 where
       → (codeOf image (onWhole (check (headerNumber image))) ≡ 0)
       × (codeOf image (onWhole (report (headerNumber image))) ≡ 0)
       × (codeOf image (onWhole (erase (headerNumber image))) ≡ 0)
+  -- "then 6, 8, then 7 or 9", a read or save being done where none of these applies
+  pub read-codes : (image : List ℕ) (partition n : ℕ) (buffer : List ℕ) → refusal image partition ≡ 0
+      → ReadCodes image n buffer (codeOf image (onPage (read partition n buffer)))
+  pub save-codes : (image : List ℕ) (partition n : ℕ) (expected page : List ℕ) → refusal image partition ≡ 0
+      → SaveCodes image n expected page (codeOf image (onPage (save partition n expected page)))
   -- a refusal leaves the image and every buffer as they were, and hands nothing back
   pub refusal-keeps : (image : List ℕ) (c : Call) (image′ : List ℕ) (answer : Reply) → Answered image c image′ answer
       → answer .code ≢ 0 → (image′ ≡ image) × (answer .buffers ≡ buffersOf c) × (answer .values ≡ [])
