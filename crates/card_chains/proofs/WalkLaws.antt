@@ -13,7 +13,8 @@ use Rattle.card_model.specs.declared.Link.the-variants.{Free, Damaged, Last, Ne
 use Rattle.card_model.specs.Table.{linkAt}
 use Rattle.card_model.specs.Entries.{firstBlock, size, isUsed, wrongEntry}
 use Rattle.card_model.specs.Files.{chainStep, chain, chainOf}
-use Rattle.card_model.proofs.ChainLaws.{next-below, Links, ends, goes, chain-links, chain-head}
+use Rattle.card_model.proofs.TableLaws.{next-below}
+use Rattle.card_model.proofs.ChainLaws.{Links, ends, goes, chain-links, chain-head}
 use Rattle.card_model.proofs.EntryLaws.{right-entry}
 use Rattle.card_chains.specs.Marks.{isMarked, markAll, metMark, outcome, broken, Walked, fileChain, IsAfter}
 

@@ -18,7 +18,8 @@ use Rattle.card_model.specs.declared.Link.the-variants.{Free, Damaged, Last, Ne
 use Rattle.card_model.specs.Table.{fatEntry, linkAt}
 use Rattle.card_model.specs.Entries.{kind, firstBlock, nameOf, size, isUsed, isGame, wrongEntry, entryAt, isNamed, nameTaken}
 use Rattle.card_model.specs.Files.{chainStep, chain, badChain, orEmpty, fileOf, rising, breaksGameRule}
-use Rattle.card_model.proofs.ChainLaws.{next-is, chain-head}
+use Rattle.card_model.proofs.TableLaws.{next-is}
+use Rattle.card_model.proofs.ChainLaws.{chain-head}
 use Rattle.card_model.proofs.EntryLaws.{right-entry, file-chain}
 use Rattle.card_directory.specs.declared.search.FoundEntry.the-variants.{At, Nothing}
 use Rattle.card_directory.specs.Found.{asFound}

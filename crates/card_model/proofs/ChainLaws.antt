@@ -3,14 +3,14 @@
 -- Assumes nothing.
 use Prim.Native.Nat.{ℕ, zero, suc, _+_, _-_, _≤_, _<_}
 use mathlib.Core.Path.{_≡_, refl, sym, ap, subst, _∙_}
-use mathlib.Core.Bool.{Bool, true, false, cond, _||_, false≢true}
+use mathlib.Core.Bool.{Bool, true, false, _||_, false≢true}
 use mathlib.Core.List.{List, [], _∷_}
 use mathlib.Core.Option.{Option, none, some, Option·map, Option·some-injective}
 use mathlib.Core.Logic.{_↔_}
 use native.Mathlib.Omega.{arith}
-use lib.Dec.{eqb, ltb}
+use lib.Dec.{eqb}
 use lib.ListN.{length, getD, drop}
-use borrow.Author.Tests.{ltb-true, lt-ltb, eqb-true, ne-eqb}
+use borrow.Author.Tests.{eqb-true, ne-eqb}
 use Rattle.words.specs.Lists.{has, Distinct}
 use Rattle.words.proofs.ListLaws.{All}
 use Rattle.card_model.specs.declared.Link.{Link}
@@ -18,42 +18,7 @@ use Rattle.card_model.specs.declared.Link.the-variants.{Free, Damaged, L
 use Rattle.card_model.specs.Table.{fatEntry, linkOf, linkAt, freeOrDamaged}
 use Rattle.card_model.specs.Files.{chainStep, chain}
 use Rattle.card_model.specs.Theorems.{IsChain}
-
--- ---- what a link tells of its entry
-
-abbrev Told : Link → ℕ → Type 0
-Told Free e = Unit {0}
-Told Damaged e = Unit {0}
-Told Last e = e ≡ 0xFFFA
-Told (Next n) e = (e ≡ n) × (n < 200)
-Told Bad e = Unit {0}
-
-told : (e : ℕ) → Told (linkOf e) e
-unfolding linkOf
-told e = go (eqb e 0xFFFC) (eqb e 0xFFFF) (eqb e 0xFFFA) (ltb e 200) refl refl
-  where
-    go : (a b c d : Bool) → eqb e 0xFFFA ≡ c → ltb e 200 ≡ d → Told (cond a Free (cond b Damaged (cond c Last (cond d (Next e) Bad)))) e
-    go true b c d f g = tt
-    go false true c d f g = tt
-    go false false true d f g = eqb-true e 0xFFFA f
-    go false false false true f g = (refl, ltb-true e 200 g)
-    go false false false false f g = tt
-
--- a next block is the entry itself, and a user block
-pub next-is : (e n : ℕ) → linkOf e ≡ Next n → (e ≡ n) × (n < 200)
-next-is e n q = subst (λ (l : Link). Told l e) q (told e)
-
-pub next-below : (e n : ℕ) → linkOf e ≡ Next n → n < 200
-next-below e n q = next-is e n q .1
-
-next-of : (e n : ℕ) → e ≡ n → e < 200 → linkOf e ≡ Next n
-unfolding linkOf
-next-of e n q h =
-    let other : (k : ℕ) → 200 ≤ k → eqb e k ≡ false = λ k l. ne-eqb e k (λ d. omega arith) in
-    simp (other 0xFFFC (omega arith), other 0xFFFF (omega arith), other 0xFFFA (omega arith), lt-ltb e 200 h) (ap Next q)
-
-last-is : (e : ℕ) → linkOf e ≡ Last → e ≡ 0xFFFA
-last-is e q = subst (λ (l : Link). Told l e) q (told e)
+use Rattle.card_model.proofs.TableLaws.{next-is, next-below, next-of, last-is}
 
 -- ---- a chain that is there, link by link
 

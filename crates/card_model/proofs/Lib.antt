@@ -1,3 +1,4 @@
+pub mod TableLaws
 pub mod ChainLaws
 pub mod EntryLaws
 pub mod SoundLaws

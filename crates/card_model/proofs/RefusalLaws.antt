@@ -24,6 +24,7 @@ use Rattle.card_model.specs.Calls.{lengthRow, tableRows, directoryRows, 
 use Rattle.card_model.specs.Sound.{entryOn, UsedEntry}
 use Rattle.card_model.specs.Theorems.{Wrong, row-20, row-21, row-22, row-23, row-24, row-25, row-26, row-27, row-28, row-29, row-30}
 use Rattle.card_model.specs.Theorems.{placeNumber, Refused}
+use Rattle.card_model.proofs.TableLaws.{root-tells, root-is-wrong, hidden-tells, hidden-is-wrong, user-tells, user-is-wrong}
 use Rattle.card_model.proofs.TestLaws.{entry-tells, entry-is-wrong, chain-tells, chain-is-bad, sharing-tells, block-is-shared}
 use Rattle.card_model.proofs.TestLaws.{name-tells, name-is-taken, game-tells, game-is-wrong}
 
@@ -69,8 +70,8 @@ module _ (card : List ℕ) where
   placed (row-21 w) = (omega arith, omega arith, refl)
   placed (row-22 w) = (omega arith, omega arith, refl)
   placed (row-23 l h w) = (omega arith, omega arith, refl)
-  placed (row-24 l h w) = (omega arith, omega arith, refl)
-  placed (row-25 h w) = (omega arith, omega arith, refl)
+  placed (row-24 l h c d) = (omega arith, omega arith, refl)
+  placed (row-25 h c d a u) = (omega arith, omega arith, refl)
   placed (row-26 u w) = (omega arith, omega arith, refl)
   placed (row-27 u n) = (omega arith, omega arith, refl)
   placed (row-28 b h l i j) = (omega arith, omega arith, refl)
@@ -87,10 +88,10 @@ module _ (card : List ℕ) where
       wrongSystem wrongHidden wrongUser
   fires (row-20 d) = rw (ne-eqb _ _ d) (refl, omega arith)
   fires (row-21 d) = rw (ne-same _ _ d) (refl, omega arith)
-  fires (row-22 w) = rw w (refl, omega arith)
+  fires (row-22 w) = rw (root-is-wrong root w) (refl, omega arith)
   fires (row-23 l h d) = over-fires _ Block (wrongSystem table) _ _ _ l h (ap not (ne-eqb _ _ d)) (λ j. refl)
-  fires (row-24 l h w) = over-fires _ Block (wrongHidden table) _ _ _ l h (ap not w) (λ j. refl)
-  fires (row-25 h w) = over-fires _ Block (wrongUser table) _ _ _ zero-le h w (λ j. refl)
+  fires (row-24 l h c d) = over-fires _ Block (wrongHidden table) _ _ _ l h (hidden-is-wrong table _ c d) (λ j. refl)
+  fires (row-25 h c d a u) = over-fires _ Block (wrongUser table) _ _ _ zero-le h (user-is-wrong table _ c d a u) (λ j. refl)
   fires (row-26 u w) = fires-at _ (λ i. wrongEntry (entryOn card i)) (u .in-directory) (entry-is-wrong _ (u .is-used) w)
   fires (row-27 u n) = fires-at _ (λ i. badChain table (entryOn card i)) (u .in-directory) (chain-is-bad table _ (u .is-used) n)
   fires (row-28 b h l i j) = fires-at _ (sharesBlock table directory) h (block-is-shared card _ _ b l i j)
@@ -192,10 +193,10 @@ module _ (card : List ℕ) where
   all-rows =
       let v20 = judged 20 (at-tells _ _ _ (λ t. row-20 (eqb-false _ _ (not-true _ t)))) in
       let v21 = judged 21 (at-tells _ _ _ (λ t. row-21 (λ e. false≢true (sym (not-true _ t) ∙ eq-same _ _ e)))) in
-      let v22 = judged 22 (at-tells _ _ _ (λ t. row-22 (not-true _ t))) in
+      let v22 = judged 22 (at-tells _ _ _ (λ t. row-22 (root-tells root (not-true _ t)))) in
       let v23 = judged 23 (over-tells _ _ _ _ _ (λ b l h t. row-23 l h (eqb-false _ _ (not-true _ t)))) in
-      let v24 = judged 24 (over-tells _ _ _ _ _ (λ b l h t. row-24 l h (not-true _ t))) in
-      let v25 = judged 25 (over-tells _ _ _ 0 _ (λ i l. row-25)) in
+      let v24 = judged 24 (over-tells _ _ _ _ _ (λ b l h t. let w = hidden-tells table b t in row-24 l h (w .0) (w .1))) in
+      let v25 = judged 25 (over-tells _ _ _ 0 _ (λ b l h t. let w = user-tells table b t in row-25 h (w .0) (w .1) (w .2) (w .3))) in
       let v26 = judged 26 (over-tells _ _ _ 0 _ (λ i l. wrong-entry i)) in
       let v27 = judged 27 (over-tells _ _ _ 0 _ (λ i l. bad-chain i)) in
       let v28 = judged 28 (over-tells _ _ _ 0 _ (λ i l. shared-block i)) in

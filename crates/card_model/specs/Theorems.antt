@@ -8,6 +8,7 @@ use mathlib.Core.Option.{some}
 use mathlib.Core.Logic.{_↔_, _≢_, _⊎_}
 use lib.ListN.{length, getD, take, drop, replicate}
 use Rattle.words.specs.Lists.{keep, has, Distinct, concat, numbersFrom}
+use Rattle.words.specs.Words.{word}
 use Rattle.verdicts.specs.declared.Place.{Place}
 use Rattle.verdicts.specs.declared.Place.the-variants.{Whole, Block, Entry}
 use Rattle.verdicts.specs.declared.Verdict.{Verdict}
@@ -15,7 +16,7 @@ use Rattle.verdicts.specs.Rows.{done, refusedAt}
 use Rattle.card_model.specs.declared.Link.{Link}
 use Rattle.card_model.specs.declared.Link.the-variants.{Free, Damaged, Last, Next, Bad}
 use Rattle.card_model.specs.Layout.{cardLength, rootOf, tableOf, directoryOf}
-use Rattle.card_model.specs.Table.{rightFields, fatEntry, linkAt, systemEntry, freeOrDamaged, isBad}
+use Rattle.card_model.specs.Table.{fatEntry, linkAt, systemEntry}
 use Rattle.card_model.specs.Entries.{kind, flag, firstBlock, nameOf, size, headerOffset, isUsed, isData, isGame}
 use Rattle.card_model.specs.Files.{chain, filesBefore}
 use Rattle.card_model.specs.Files as files
@@ -54,6 +55,14 @@ blocksInFiles card = length (filesBefore (tableOf card) (directoryOf card) 208)
 
 -- ---- what a refusal tells
 
+-- Which root field is wrong: "Root fields tested: 0x46 = 254, 0x48 = 1, 0x4a = 253, 0x4c = 13, 0x50 = 200".
+pub data WrongRoot (root : List ℕ) : Type 0 where
+  wrong-46 : word root 0x46 ≢ 254 → WrongRoot root
+  wrong-48 : word root 0x48 ≢ 1 → WrongRoot root
+  wrong-4a : word root 0x4a ≢ 253 → WrongRoot root
+  wrong-4c : word root 0x4c ≢ 13 → WrongRoot root
+  wrong-50 : word root 0x50 ≢ 200 → WrongRoot root
+
 -- What makes a used entry bad.
 pub data WrongFields (entry : List ℕ) : Type 0 where
   -- "type is 33 (data) or CC (game)"
@@ -91,10 +100,13 @@ pub data WrongGame (card : List ℕ) (i : ℕ) : Type 0 where
 pub data Wrong (card : List ℕ) : ℕ → Place → Type 0 where
   row-20 : length card ≢ cardLength → Wrong card 20 Whole
   row-21 : take 16 (rootOf card) ≢ replicate 16 0x55 → Wrong card 21 (Block 255)
-  row-22 : rightFields (rootOf card) ≡ false → Wrong card 22 (Block 255)
+  row-22 : WrongRoot (rootOf card) → Wrong card 22 (Block 255)
   row-23 : {b : ℕ} → 241 ≤ b → b < 256 → fatEntry (tableOf card) b ≢ systemEntry b → Wrong card 23 (Block b)
-  row-24 : {b : ℕ} → 200 ≤ b → b < 241 → freeOrDamaged (linkAt (tableOf card) b) ≡ false → Wrong card 24 (Block b)
-  row-25 : {b : ℕ} → b < 200 → isBad (linkAt (tableOf card) b) ≡ true → Wrong card 25 (Block b)
+  -- "an entry of 200..240 neither FFFC nor FFFF"
+  row-24 : {b : ℕ} → 200 ≤ b → b < 241 → fatEntry (tableOf card) b ≢ 0xFFFC → fatEntry (tableOf card) b ≢ 0xFFFF → Wrong card 24 (Block b)
+  -- "a user entry not FFFC, FFFF, FFFA or 0..199"
+  row-25 : {b : ℕ} → b < 200 → fatEntry (tableOf card) b ≢ 0xFFFC → fatEntry (tableOf card) b ≢ 0xFFFF → fatEntry (tableOf card) b ≢ 0xFFFA
+      → 200 ≤ fatEntry (tableOf card) b → Wrong card 25 (Block b)
   row-26 : {i : ℕ} → UsedEntry card i → WrongFields (entryOn card i) → Wrong card 26 (Entry i)
   -- no blocks at all are its chain
   row-27 : {i : ℕ} → UsedEntry card i
