@@ -16,7 +16,7 @@ use Rattle.flash_model.specs.Update.{appendBlock, appended, holders, oth
 use Rattle.flash_model.specs.Calls.{Call, Reply, first, codeOf, changedImage, Answered}
 use Rattle.flash_model.specs.Calls.{PageCall.read, PageCall.save, WholeCall.check, WholeCall.report, WholeCall.nextLive, WholeCall.erase, Call.onPage, Call.onWhole}
 use Rattle.flash_model.specs.PageStore.{expectedPage}
-use Rattle.flash_model.specs.Demands.{NextLiveIs, SavedAs, ErasedAs, LowestFreeBlank, AppendedAt, CompactedAs, ProperSave, RightLengths, SaveCodes, namedBy, ReadOnly, SaveDone, Demand2}
+use Rattle.flash_model.specs.Demands.{NextLiveIs, SavedAs, ErasedAs, LowestFreeBlank, AppendedAt, CompactedAs, ProperSave, LengthsTaken, SaveCodes, namedBy, ReadOnly, SaveDone, Demand2}
 use Rattle.flash_model.proofs.MeasureLaws.{legal-le}
 use Rattle.flash_model.proofs.BitmapLaws.{free-bit}
 use Rattle.flash_model.proofs.BlockLaws.{new-length}
@@ -171,7 +171,7 @@ module _ (image : List ℕ) (partition n : ℕ) (expected page : List ℕ) (p : 
   codes : SaveCodes image n expected page (codeOf image (onPage (save partition n expected page)))
   codes = save-codes image partition n expected page (subst (λ (q : ℕ). refusal image q ≡ 0) (p .is-named) (p .is-sound))
 
-  right-lengths : RightLengths expected page
+  right-lengths : LengthsTaken expected page
   right-lengths = (p .page-length, go (ℕ-discrete (length expected) 0))
     where
       go : Dec (length expected ≡ 0) → (length expected ≡ 0) ⊎ (length expected ≡ 60)

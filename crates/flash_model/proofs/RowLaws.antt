@@ -16,7 +16,7 @@ use Rattle.flash_model.specs.Partition.{row, refusal, contents}
 use Rattle.flash_model.specs.Calls.{changedSince, codeOf}
 use Rattle.flash_model.specs.Calls.{PageCall.read, PageCall.save, Call.onPage}
 use Rattle.flash_model.specs.PageStore.{expectedPage}
-use Rattle.flash_model.specs.Demands.{ReadCodes, WrongLengths, RightLengths, SaveCodes}
+use Rattle.flash_model.specs.Demands.{ReadCodes, LengthsRefused, LengthsTaken, SaveCodes}
 use Rattle.flash_model.proofs.MeasureLaws.{legal-le, illegal-above}
 use Rattle.flash_model.proofs.CallLaws.{unrefused-sound, same-seen, seen-same}
 use Rattle.flash_model.proofs.MeaningLaws.{contents-length}
@@ -98,7 +98,7 @@ says-7 none = record { applies = λ e. refl; passes = λ e. absurd (true≢false
 says-7 (some page) = record { applies = λ e. absurd (true≢false (sym e)); passes = λ e d. true≢false (ap isSome d); apart = λ e d. d e }
 
 says-lengths : (expected page : List ℕ)
-    → Says (not (eqb (length page) 60) || not (eqb (length expected) 0 || eqb (length expected) 60)) (WrongLengths expected page) (RightLengths expected page)
+    → Says (not (eqb (length page) 60) || not (eqb (length expected) 0 || eqb (length expected) 60)) (LengthsRefused expected page) (LengthsTaken expected page)
 says-lengths expected page = record {
   applies = λ e. ⊎-elim (λ t. inl (says-60 (length page) .applies t)) (λ t. inr (neither (not-true seen t))) (or-true-either new (not seen) e);
   passes = λ e. (says-60 (length page) .passes (or-false-left new (not seen) e), one-of (not-false seen (or-false-right new (not seen) e)));

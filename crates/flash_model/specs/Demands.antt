@@ -167,22 +167,22 @@ pub record ReadCodes (image : List ℕ) (n : ℕ) (buffer : List ℕ) (code : �
   pub row-0 : (code ≡ 0) ↔ ((n ≤ topNumber (length image)) × (length buffer ≡ 60) × (contents image n ≢ none))
 
 -- The buffers of a save.
-abbrev pub WrongLengths : List ℕ → List ℕ → Type 0
-WrongLengths expected page = (length page ≢ 60) ⊎ ((length expected ≢ 0) × (length expected ≢ 60))
+abbrev pub LengthsRefused : List ℕ → List ℕ → Type 0
+LengthsRefused expected page = (length page ≢ 60) ⊎ ((length expected ≢ 0) × (length expected ≢ 60))
 
-abbrev pub RightLengths : List ℕ → List ℕ → Type 0
-RightLengths expected page = (length page ≡ 60) × ((length expected ≡ 0) ⊎ (length expected ≡ 60))
+abbrev pub LengthsTaken : List ℕ → List ℕ → Type 0
+LengthsTaken expected page = (length page ≡ 60) × ((length expected ≡ 0) ⊎ (length expected ≡ 60))
 
 -- What a save's number says where 1 to 5 don't apply.
 pub record SaveCodes (image : List ℕ) (n : ℕ) (expected page : List ℕ) (code : ℕ) : Type 0 where
   -- "logical number above M-2"
   pub row-6 : (code ≡ 6) ↔ (topNumber (length image) < n)
   -- "page buffer not 60 bytes, or last-seen neither 0 nor 60"
-  pub row-8 : (code ≡ 8) ↔ ((n ≤ topNumber (length image)) × WrongLengths expected page)
+  pub row-8 : (code ≡ 8) ↔ ((n ≤ topNumber (length image)) × LengthsRefused expected page)
   -- "save: contents differ from last-seen, or one of them is nothing and the other isn't"
-  pub row-9 : (code ≡ 9) ↔ ((n ≤ topNumber (length image)) × RightLengths expected page × (expectedPage expected ≢ contents image n))
+  pub row-9 : (code ≡ 9) ↔ ((n ≤ topNumber (length image)) × LengthsTaken expected page × (expectedPage expected ≢ contents image n))
   -- "done"
-  pub row-0 : (code ≡ 0) ↔ ((n ≤ topNumber (length image)) × RightLengths expected page × (expectedPage expected ≡ contents image n))
+  pub row-0 : (code ≡ 0) ↔ ((n ≤ topNumber (length image)) × LengthsTaken expected page × (expectedPage expected ≡ contents image n))
 
 -- The partition number that a call names.
 abbrev pub namedBy : Call → ℕ
