@@ -1,4 +1,5 @@
-/* Each call of include/galtuyeg.h from C, once where it is done and once where it is refused; NULL wherever a length is 0.
+/* Each call of include/galtuyeg.h from C, where it is done and where it is refused, then with its buffers as they were; NULL
+ * for each buffer, of length 0.
  * Ends with a line that counts the facts tested, or with the first that fails and status 1. */
 #include <stdio.h>
 #include <stdlib.h>
@@ -68,7 +69,7 @@ static void format_card(uint8_t *card)
     memset(card + 199 * 512, 0xA5, 512);
 }
 
-static void flash_calls(uint8_t *image)
+static void flash_calls(uint8_t *image, uint8_t *before)
 {
     uint8_t first[GALTUYEG_PAGE_BYTES], second[GALTUYEG_PAGE_BYTES], page[GALTUYEG_PAGE_BYTES];
     struct galtuyeg_report report;
@@ -79,10 +80,15 @@ static void flash_calls(uint8_t *image)
     format_partition(image);
     CHECK(galtuyeg_flash_check(image, PARTITION_BYTES, 3) == 0);
     CHECK(galtuyeg_flash_check(image, PARTITION_BYTES, 2) == 3);
+    CHECK(galtuyeg_flash_check(NULL, 0, 3) == 1);
     CHECK(galtuyeg_flash_save(image, PARTITION_BYTES, 3, 24, NULL, 0, first, sizeof first) == 0);
+    memcpy(before, image, PARTITION_BYTES);
     CHECK(galtuyeg_flash_save(image, PARTITION_BYTES, 3, 24, NULL, 0, second, sizeof second) == 9);
-    CHECK(galtuyeg_flash_save(image, PARTITION_BYTES, 3, 24, first, sizeof first, second, sizeof second) == 0);
     CHECK(galtuyeg_flash_save(image, PARTITION_BYTES, 3, 510, NULL, 0, NULL, 0) == 6);
+    CHECK(galtuyeg_flash_save(NULL, 0, 3, 24, NULL, 0, second, sizeof second) == 1);
+    CHECK(galtuyeg_flash_erase(image, PARTITION_BYTES, 2) == 3);
+    CHECK(memcmp(image, before, PARTITION_BYTES) == 0 && second[0] == 2 && second[59] == 2);
+    CHECK(galtuyeg_flash_save(image, PARTITION_BYTES, 3, 24, first, sizeof first, second, sizeof second) == 0);
 
     report = galtuyeg_flash_report(image, PARTITION_BYTES, 3);
     CHECK(report.code == 0 && report.version == 1 && report.capacity == 510 && report.used == 2 && report.live == 1);
@@ -93,9 +99,13 @@ static void flash_calls(uint8_t *image)
     CHECK(next.code == 0 && next.number == 24);
     next = galtuyeg_flash_next_live(image, PARTITION_BYTES, 3, UINT64_MAX);
     CHECK(next.code == 7 && next.number == 0);
+    CHECK(galtuyeg_flash_next_live(NULL, 0, 3, 0).code == 1);
 
     memset(page, 9, sizeof page);
-    CHECK(galtuyeg_flash_read(image, PARTITION_BYTES, 3, 23, page, sizeof page) == 7 && page[0] == 9);
+    memcpy(before, page, sizeof page);
+    CHECK(galtuyeg_flash_read(image, PARTITION_BYTES, 3, 23, page, sizeof page) == 7);
+    CHECK(galtuyeg_flash_read(NULL, 0, 3, 24, page, sizeof page) == 1);
+    CHECK(memcmp(page, before, sizeof page) == 0);
     CHECK(galtuyeg_flash_read(image, PARTITION_BYTES, 3, 24, page, sizeof page) == 0);
     CHECK(memcmp(page, second, sizeof page) == 0);
     CHECK(galtuyeg_flash_read(image, PARTITION_BYTES, 3, 24, NULL, 0) == 8);
@@ -124,9 +134,12 @@ static void card_calls(uint8_t *card)
     CHECK(memcmp(entry.name, name, sizeof entry.name) == 0);
     CHECK(entry.time[0] == 0x19 && entry.time[7] == 0x06);
     entry = galtuyeg_card_list(card, CARD_BYTES, UINT64_MAX);
+    CHECK(galtuyeg_card_list(NULL, 0, 0).code == 20);
     CHECK(entry.code == 31 && entry.entry == 0 && entry.type == 0 && entry.name[0] == 0 && entry.time[7] == 0);
 
     memset(block, 0, sizeof block);
+    CHECK(galtuyeg_card_read(card, CARD_BYTES, (const uint8_t *)"SAVE_______?", 12, 0, block, sizeof block).code == 31);
+    CHECK(block[0] == 0 && block[511] == 0);
     read = galtuyeg_card_read(card, CARD_BYTES, name, 12, 0, block, sizeof block);
     CHECK(read.code == 0 && block[0] == 0xA5 && block[511] == 0xA5);
     CHECK(galtuyeg_card_read(card, CARD_BYTES, name, 12, 1, block, sizeof block).code == 32);
@@ -139,18 +152,21 @@ static void card_calls(uint8_t *card)
     card[253 * 512 + 0x18] = 2;
     read = galtuyeg_card_read(card, CARD_BYTES, name, 12, 0, block, sizeof block);
     CHECK(read.code == 27 && read.place_kind == GALTUYEG_DIRECTORY_ENTRY && read.place == 0);
+    CHECK(block[0] == 0xA5 && block[511] == 0xA5);
 }
 
 int main(void)
 {
     uint8_t *image = malloc(PARTITION_BYTES);
+    uint8_t *before = malloc(PARTITION_BYTES);
     uint8_t *card = malloc(CARD_BYTES);
 
-    if (image == NULL || card == NULL)
+    if (image == NULL || before == NULL || card == NULL)
         return 2;
-    flash_calls(image);
+    flash_calls(image, before);
     card_calls(card);
     free(image);
+    free(before);
     free(card);
     printf("interface: %d facts as expected\n", tested);
     return 0;

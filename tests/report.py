@@ -3,16 +3,21 @@
 
 The model of a partition is that of vectors/flash_runs.py, written from document 01 alone. Ends with a line that counts the
 outputs compared, or with the first difference and status 1."""
+import fcntl
 import os
 import pathlib
+import struct
 import subprocess
 import sys
+import termios
+import time
 
 HERE = pathlib.Path(__file__).resolve().parent
 sys.path.insert(0, str(HERE / "vectors"))
 import flash_runs as model  # noqa: E402
 
 PARTITIONS = {16384: 2, 32768: 3, 65536: 4}
+UNREAD = "cannot read the image\n"
 SAMPLE = "partition 3\nversion 1\nuser 510\nused 2\nlive 1\nblock 24\nend\n"
 
 
@@ -88,22 +93,58 @@ def run(program, **how):
     return subprocess.run([program], stdout=subprocess.PIPE, stderr=subprocess.PIPE, timeout=60, **how)
 
 
-def compare(name, ended, text, complaint=""):
-    got = (ended.returncode, ended.stdout.decode(), ended.stderr.decode())
+def compare(name, answer, text, complaint=""):
+    got = (answer.returncode, answer.stdout.decode(), answer.stderr.decode())
     if got != (0, text, complaint):
         sys.exit(f"{name}: expected {(0, text, complaint)}, and the program gave {got}")
 
 
+def run_on_pipe(program, reading):
+    return subprocess.Popen([program], stdin=reading, stdout=subprocess.PIPE, stderr=subprocess.PIPE)
+
+
+def ended(process):
+    out, err = process.communicate(timeout=60)
+    return subprocess.CompletedProcess(process.args, process.returncode, out, err)
+
+
 def run_in_pieces(program, image, size):
-    """The image through a pipe, in pieces of this size."""
+    """The image through a pipe, each piece written when the one before has been read."""
     reading, writing = os.pipe()
-    process = subprocess.Popen([program], stdin=reading, stdout=subprocess.PIPE, stderr=subprocess.PIPE)
-    os.close(reading)
+    process = run_on_pipe(program, reading)
     for at in range(0, len(image), size):
         os.write(writing, bytes(image[at : at + size]))
+        wait_until_read(reading, process)
     os.close(writing)
-    out, err = process.communicate(timeout=60)
-    return subprocess.CompletedProcess([program], process.returncode, out, err)
+    os.close(reading)
+    return ended(process)
+
+
+def run_then_fail(program, image):
+    """The whole image stands in a pipe that stays open: the read behind it finds neither a byte nor the end, and fails."""
+    reading, writing = os.pipe()
+    os.set_blocking(reading, False)
+    os.write(writing, bytes(image))
+    process = run_on_pipe(program, reading)
+    os.close(reading)
+    answer = ended(process)
+    os.close(writing)
+    return answer
+
+
+def wait_until_read(pipe, process):
+    while struct.unpack("i", fcntl.ioctl(pipe, termios.FIONREAD, bytes(4)))[0] and process.poll() is None:
+        time.sleep(0.001)
+
+
+def compare_read_errors(program):
+    """An error at the first read, and errors where a whole sound image has been read."""
+    directory = os.open("/", os.O_RDONLY)
+    compare("a directory", run(program, stdin=directory), "", UNREAD)
+    os.close(directory)
+    for length in PARTITIONS:
+        compare(f"{length} bytes, then an error", run_then_fail(program, saved(length, [(24, 1)])), "", UNREAD)
+    return 1 + len(PARTITIONS)
 
 
 def main(program):
@@ -120,14 +161,13 @@ def main(program):
     sample = (HERE.parent / "samples" / "partition3.bin").read_bytes()
     assert sample == saved(32768, [(24, 1), (24, 2)])
     compare("the sample", run(program, input=sample), SAMPLE)
-    for size in (1000, 4096, 16384):
+    sizes = (1000, 4096, 16384)
+    for size in sizes:
         compare(f"the sample in pieces of {size}", run_in_pieces(program, sample, size), SAMPLE)
     with open("/dev/zero", "rb") as endless:
         compare("endless input", run(program, stdin=endless), "refused 1\n")
-    directory = os.open("/", os.O_RDONLY)
-    compare("a directory, a read error", run(program, stdin=directory), "", "cannot read the image\n")
-    os.close(directory)
-    print(f"report: {len(cases) + 6} outputs as expected")
+    errors = compare_read_errors(program)
+    print(f"report: {len(cases) + 1 + len(sizes) + 1 + errors} outputs as expected")
 
 
 if __name__ == "__main__":

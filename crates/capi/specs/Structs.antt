@@ -5,6 +5,7 @@ use lib.ListN.{getD}
 use Rattle.verdicts.specs.declared.Place.{Place}
 use Rattle.verdicts.specs.declared.Place.the-variants.{Whole, Block, Entry}
 use Rattle.verdicts.specs.declared.Verdict.{Verdict}
+use Rattle.verdicts.specs.Rows.{placeNumber}
 use Rattle.flash_model.specs.Calls.{Reply}
 use Rattle.card_model.specs.declared.Checked.{Checked}
 use Rattle.card_model.specs.declared.Listing.{Listing}
@@ -41,19 +42,14 @@ kindOf Whole = 0
 kindOf (Block n) = 1
 kindOf (Entry n) = 2
 
-abbrev pub numberOf : Place → ℕ
-numberOf Whole = 0
-numberOf (Block n) = n
-numberOf (Entry n) = n
-
 unfoldable pub cardVerdictOf : Verdict → CardVerdictAnswer
-cardVerdictOf v = record { code = v .number; «place_kind» = kindOf (v .place); place = numberOf (v .place) }
+cardVerdictOf v = record { code = v .number; «place_kind» = kindOf (v .place); place = placeNumber (v .place) }
 
 unfoldable pub cardCheckOf : Checked → CardCheckAnswer
 cardCheckOf c = record {
   code = c .verdict .number;
   «place_kind» = kindOf (c .verdict .place);
-  place = numberOf (c .verdict .place);
+  place = placeNumber (c .verdict .place);
   orphans = c .orphans;
 }
 
@@ -61,7 +57,7 @@ unfoldable pub cardEntryOf : Listing → CardEntryAnswer
 cardEntryOf l = record {
   code = l .verdict .number;
   «place_kind» = kindOf (l .verdict .place);
-  place = numberOf (l .verdict .place);
+  place = placeNumber (l .verdict .place);
   entry = l .entry;
   kind = l .kind;
   flag = l .flag;

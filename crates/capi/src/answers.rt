@@ -4,8 +4,9 @@ use flash::Summary;
 use verdicts::Place;
 use verdicts::Verdict;
 ghost use mathlib.Core.Path.{_≡_};
+ghost use Rattle.verdicts.specs.Rows.{placeNumber};
 ghost use Rattle.flash.specs.Answers.{listed, nextAnswer};
-ghost use Rattle.capi.specs.Structs.{reportOf, nextLiveOf, cardVerdictOf, kindOf, numberOf};
+ghost use Rattle.capi.specs.Structs.{reportOf, nextLiveOf, cardVerdictOf, kindOf};
 
 #[repr(C)]
 pub struct ReportAnswer {
@@ -100,7 +101,7 @@ fn place_kind(place: Place) -> u64
 }
 
 fn place_number(place: Place) -> u64
-    ensures { λ r. ⌜ r ≡ numberOf place ⌝ }
+    ensures { λ r. ⌜ r ≡ placeNumber place ⌝ }
 {
     match place {
         Place::Whole => 0,

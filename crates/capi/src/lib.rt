@@ -1,7 +1,7 @@
 // The public calls for programs in C and Rust. include/galtuyeg.h declares them, with the structs under C's names.
 //
-// Nothing is asked of what a caller lends but that each pointer is good for its length and that no two overlap, which is C's
-// side of a slice. Where a call is refused, every value but the code and the place is 0.
+// Nothing is asked of what a caller lends but that each pointer is good for its length and that a buffer which a call writes
+// overlaps no other, which is C's side of a slice. Where a call is refused, every value but the code and the place is 0.
 pub mod answers;
 
 use answers::CardCheckAnswer;

@@ -15,7 +15,7 @@ use Rattle.words.proofs.WordLaws.{eq-same, ne-same}
 use Rattle.verdicts.specs.declared.Place.{Place}
 use Rattle.verdicts.specs.declared.Place.the-variants.{Whole, Block, Entry}
 use Rattle.verdicts.specs.declared.Verdict.{Verdict}
-use Rattle.verdicts.specs.Rows.{done, refusedAt, rowAt, rowOver, unlessRefused}
+use Rattle.verdicts.specs.Rows.{placeNumber, done, refusedAt, rowAt, rowOver, unlessRefused}
 use Rattle.card_model.specs.Layout.{rootOf, tableOf, directoryOf}
 use Rattle.card_model.specs.Table.{magicRow, fieldsRow, wrongSystem, wrongHidden, wrongUser, systemRow, hiddenRow, userRow}
 use Rattle.card_model.specs.Entries.{wrongEntry, nameTaken, entryRow, nameRow}
@@ -23,7 +23,7 @@ use Rattle.card_model.specs.Files.{badChain, sharesBlock, breaksGameRule
 use Rattle.card_model.specs.Calls.{lengthRow, tableRows, directoryRows, verdictOf}
 use Rattle.card_model.specs.Sound.{entryOn, UsedEntry}
 use Rattle.card_model.specs.Theorems.{Wrong, row-20, row-21, row-22, row-23, row-24, row-25, row-26, row-27, row-28, row-29, row-30}
-use Rattle.card_model.specs.Theorems.{placeNumber, Refused}
+use Rattle.card_model.specs.Theorems.{Refused}
 use Rattle.card_model.proofs.TableLaws.{root-tells, root-is-wrong, hidden-tells, hidden-is-wrong, user-tells, user-is-wrong}
 use Rattle.card_model.proofs.TestLaws.{entry-tells, entry-is-wrong, chain-tells, chain-is-bad, sharing-tells, block-is-shared}
 use Rattle.card_model.proofs.TestLaws.{name-tells, name-is-taken, game-tells, game-is-wrong}

@@ -12,7 +12,7 @@ use Rattle.words.specs.Words.{word}
 use Rattle.verdicts.specs.declared.Place.{Place}
 use Rattle.verdicts.specs.declared.Place.the-variants.{Whole, Block, Entry}
 use Rattle.verdicts.specs.declared.Verdict.{Verdict}
-use Rattle.verdicts.specs.Rows.{done, refusedAt}
+use Rattle.verdicts.specs.Rows.{done, placeNumber, refusedAt}
 use Rattle.card_model.specs.declared.Link.{Link}
 use Rattle.card_model.specs.declared.Link.the-variants.{Free, Damaged, Last, Next, Bad}
 use Rattle.card_model.specs.Layout.{cardLength, rootOf, tableOf, directoryOf}
@@ -116,12 +116,6 @@ pub data Wrong (card : List ℕ) : ℕ → Place → Type 0 where
   -- "name of an earlier used entry"
   row-29 : {i j : ℕ} → UsedEntry card i → UsedEntry card j → j < i → nameOf (entryOn card i) ≡ nameOf (entryOn card j) → Wrong card 29 (Entry i)
   row-30 : {i : ℕ} → i < 208 → isGame (entryOn card i) ≡ true → WrongGame card i → Wrong card 30 (Entry i)
-
--- The number of the block or of the entry.
-abbrev pub placeNumber : Place → ℕ
-placeNumber Whole = 0
-placeNumber (Block b) = b
-placeNumber (Entry i) = i
 
 -- The verdict is the first thing that is wrong.
 pub record Refused (card : List ℕ) (v : Verdict) : Type 0 where

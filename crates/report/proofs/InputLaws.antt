@@ -7,7 +7,7 @@ use lib.ListN.{length, take}
 use lib.Seq.{length-take-le}
 use borrow.Rule.Slice.PartMut.{midOf, putMid, same-len-mid, mid-len}
 use Rattle.report.specs.declared.Got.{Got}
-use Rattle.report.specs.declared.Got.the-variants as got
+use Rattle.report.specs.declared.Got.the-variants as reads
 use Rattle.report.specs.declared.Input.{Input}
 use Rattle.report.specs.declared.Input.the-variants as inputs
 use Rattle.report.specs.Inputs.{Held, HeldImage}
@@ -16,7 +16,7 @@ module _ (image part : List ℕ) (done : ℕ) (kept : length part ≡ length (mi
   pub part-back : length (putMid done (length image - done) image part) ≡ length image
   part-back = same-len-mid done (length image - done) image part kept
 
-  pub part-held : (r : Got) (n : ℕ) → Held r part → r ≡ got.Bytes n → done ≤ length image → done + n ≤ length image
+  pub part-held : (r : Got) (n : ℕ) → Held r part → r ≡ reads.Bytes n → done ≤ length image → done + n ≤ length image
   part-held r n h e low =
       let l : n ≤ length part = subst (λ (x : Got). Held x part) e h in
       omega (arith, l, kept, mid-len done (length image) image (omega arith), low)

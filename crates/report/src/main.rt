@@ -20,11 +20,11 @@ enum Input {
 fn read_some(part: &mut [u8]) -> Got
     ensures { λ r. ⌜ Held r (now (part .exit)) ⌝ }
 {
-    let got = libc::read(STDIN_FILENO, part);
-    if got < 0 {
+    let answer = libc::read(STDIN_FILENO, part);
+    if answer < 0 {
         return Got::Failed;
     }
-    Got::Bytes(io::count(got, part))
+    Got::Bytes(io::count(answer, part))
 }
 
 // Tries one byte more, behind an image that fills the buffer.
@@ -32,10 +32,10 @@ fn read_past(image: &[u8]) -> Input
     ensures { λ r. ⌜ HeldImage r (now (image .entry)) ⌝ }
 {
     let mut more = [0u8; 1];
-    let Got::Bytes(got) = read_some(&mut more) else {
+    let Got::Bytes(count) = read_some(&mut more) else {
         return Input::Unread;
     };
-    if got == 0 {
+    if count == 0 {
         return Input::Image(image.len());
     }
     Input::TooLong
@@ -47,13 +47,13 @@ fn read_image(image: &mut [u8]) -> Input
 {
     let mut done = 0;
     while done < image.len() {
-        let Got::Bytes(got) = read_some(&mut image[done..]) else {
+        let Got::Bytes(count) = read_some(&mut image[done..]) else {
             return Input::Unread;
         };
-        if got == 0 {
+        if count == 0 {
             return Input::Image(done);
         }
-        done += got;
+        done += count;
     }
     read_past(image)
 }

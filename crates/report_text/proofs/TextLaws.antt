@@ -113,6 +113,6 @@ long-text image h =
 pub long-fits : (out : List ℕ) → length out ≡ 12288 → Fits out 0 (line refusedWord 1)
 long-fits out l = record { room = omega (arith, l, line-short refusedWord 1 (omega arith)) }
 
-pub long-written : {out out′ : List ℕ} {end : ℕ} → Wrote out 0 (line refusedWord 1) out′ end → (image : List ℕ) → 65536 < length image
-    → (end ≡ length (reportText image)) × (out′ ≡ reportText image ++ drop end out)
-long-written w image h = from-start (reportText image) (rw (long-text image h) w)
+pub long-written : {out out′ : List ℕ} {end : ℕ} → Wrote out 0 (line refusedWord 1) out′ end
+    → (end ≡ length (line refusedWord 1)) × (out′ ≡ line refusedWord 1 ++ drop end out)
+long-written w = from-start (line refusedWord 1) w

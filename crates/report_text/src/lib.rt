@@ -11,7 +11,7 @@ ghost use mathlib.Core.Path.{_≡_};
 ghost use mathlib.Core.List.{List, _++_};
 ghost use lib.ListN.{length, drop};
 ghost use Rattle.flash_model.specs.Partition.{refusal};
-ghost use Rattle.report_text.specs.Text.{partitionFor, headLines, blockLines, reportText};
+ghost use Rattle.report_text.specs.Text.{line, refusedWord, partitionFor, headLines, blockLines, reportText};
 ghost use Rattle.report_text.specs.Written.{Fits, Wrote};
 
 // The partition that the program names for an image of this length.
@@ -32,11 +32,11 @@ fn put_head(out: &mut [u8], partition: u8, counts: Counts) -> usize
     requires { ⌜ Fits (now out) 0 (headLines partition (counts .version) (counts .capacity) (counts .used) (counts .live)) ⌝ }
     ensures { λ r. ⌜ Wrote (now (out .entry)) 0 (headLines partition (counts .version) (counts .capacity) (counts .used) (counts .live)) (now (out .exit)) r ⌝ }
 {
-    let version = put_line(out, 0, b"partition", partition as usize);
-    let user = put_line(out, version, b"version", counts.version as usize);
-    let used = put_line(out, user, b"user", counts.capacity);
-    let live = put_line(out, used, b"used", counts.used);
-    put_line(out, live, b"live", counts.live)
+    let version_at = put_line(out, 0, b"partition", partition as usize);
+    let user_at = put_line(out, version_at, b"version", counts.version as usize);
+    let used_at = put_line(out, user_at, b"user", counts.capacity);
+    let live_at = put_line(out, used_at, b"used", counts.used);
+    put_line(out, live_at, b"live", counts.live)
 }
 
 // A line for each live number.
@@ -55,7 +55,8 @@ fn put_blocks(out: &mut [u8], at: usize, image: &[u8], partition: u8) -> usize
     }
 }
 
-// Writes the report's text at the start of the buffer and answers its length. The rest of the buffer stays as it was.
+// Writes the report's text at the start of the buffer and answers its length. The rest of the buffer stays as it was. No text is
+// longer than 11,293 bytes; the buffer is the next multiple of 4,096.
 pub fn write_report(image: &[u8], out: &mut [u8; 12288]) -> usize
     ensures { λ r. ⌜ r ≡ length (reportText (now (image .entry))) ⌝ }
     ensures { λ r. ⌜ now (out .exit) ≡ reportText (now (image .entry)) ++ drop r (now (out .entry)) ⌝ }
@@ -73,8 +74,9 @@ pub fn write_report(image: &[u8], out: &mut [u8; 12288]) -> usize
 
 // The same for any image longer than every partition, without being lent the image.
 pub fn write_too_long(out: &mut [u8; 12288]) -> usize
-    ensures { λ r. ⌜ ((image : List ℕ) → 65536 < length image → r ≡ length (reportText image)) ⌝ }
-    ensures { λ r. ⌜ ((image : List ℕ) → 65536 < length image → now (out .exit) ≡ reportText image ++ drop r (now (out .entry))) ⌝ }
+    ensures { λ r. ⌜ r ≡ length (line refusedWord 1) ⌝ }
+    ensures { λ r. ⌜ now (out .exit) ≡ line refusedWord 1 ++ drop r (now (out .entry)) ⌝ }
+    ensures { λ _. ⌜ ((image : List ℕ) → 65536 < length image → reportText image ≡ line refusedWord 1) ⌝ }
 {
     put_line(out, 0, b"refused", 1)
 }

@@ -1,5 +1,4 @@
 // Text written into a buffer, one piece behind the other: each call answers the place behind what it wrote.
-ghost use Prim.Native.Nat.{_<_};
 ghost use mathlib.Core.List.{[], _∷_};
 ghost use Rattle.report_text.specs.Text.{decimal, line};
 ghost use Rattle.report_text.specs.Written.{Fits, Wrote};

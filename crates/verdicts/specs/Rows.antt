@@ -5,8 +5,14 @@ use mathlib.Core.Bool.{Bool, cond}
 use mathlib.Core.Option.{Option, none, some}
 use lib.Dec.{eqb}
 use Rattle.verdicts.specs.declared.Place.{Place}
-use Rattle.verdicts.specs.declared.Place.the-variants.{Whole}
+use Rattle.verdicts.specs.declared.Place.the-variants.{Whole, Block, Entry}
 use Rattle.verdicts.specs.declared.Verdict.{Verdict}
+
+-- The number of the block or of the entry; 0 for the whole card.
+abbrev pub placeNumber : Place → ℕ
+placeNumber Whole = 0
+placeNumber (Block b) = b
+placeNumber (Entry i) = i
 
 -- 0: "done"
 abbrev pub done : Verdict

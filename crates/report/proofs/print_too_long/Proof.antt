@@ -1,6 +1,7 @@
 -- `print_too_long` meets its contract. Assumes nothing.
+use Rattle.report_text.specs.Text.{line, refusedWord}
 use Rattle.report.proofs.InputLaws.{start-length}
-use Rattle.report.proofs.PrintLaws.{long-within}
+use Rattle.report.proofs.PrintLaws.{text-within}
 use borrow.Author.Needs.{needs}
 use Rattle.report.proofs.print_too_long.Statement.{statement}
 use Rattle.report.proofs.print_too_long.Tie as tie
@@ -9,10 +10,10 @@ write-too-long-requires : tie.Need-write-too-long-requires
 write-too-long-requires c κs = search needs
 
 array-share-prefix-text : tie.Need-array-share-prefix-text
-array-share-prefix-text c = let w = c .write-too-long in long-within _ (w .ensures .0) (w .ensures .1)
+array-share-prefix-text c = let w = c .write-too-long in text-within (line refusedWord 1) _ (w .ensures .0) (w .ensures .1 .0)
 
 slice-aggregate-print : tie.Need-slice-aggregate-print
-slice-aggregate-print c = let w = c .before .write-too-long in start-length _ _ (long-within _ (w .ensures .0) (w .ensures .1))
+slice-aggregate-print c = let w = c .before .write-too-long in start-length _ _ (text-within (line refusedWord 1) _ (w .ensures .0) (w .ensures .1 .0))
 
 print-requires : tie.Need-print-requires
 print-requires c κs = search needs

@@ -29,8 +29,8 @@ part-read-some-end c = search needs
 read-some-requires : tie.Need-read-some-requires Inv-loop μ-loop
 read-some-requires c κs = search needs
 
-enum-known-got : tie.Need-enum-known-got Inv-loop μ-loop
-enum-known-got c = search needs
+enum-known-count : tie.Need-enum-known-count Inv-loop μ-loop
+enum-known-count c = search needs
 
 enum-told : tie.Need-enum-told Inv-loop μ-loop
 enum-told c = search needs
@@ -55,7 +55,7 @@ add-done c =
     let g = c .before .before in
     let r = g .before .before .before .before in
     let l = r .before .before .before in
-    omega (arith, part-held (l .loop .image) (r .read-some .last .0) (l .loop .done) (r .read-some .kept .0) _ _ (r .read-some .ensures) (g .got .given .1) (l .loop .inv .0))
+    omega (arith, part-held (l .loop .image) (r .read-some .last .0) (l .loop .done) (r .read-some .kept .0) _ _ (r .read-some .ensures) (g .count .given .1) (l .loop .inv .0))
 
 loop-less : tie.Need-loop-less Inv-loop μ-loop
 loop-less c =
@@ -70,7 +70,7 @@ loop-again c =
     let r = g .before .before .before .before in
     let l = r .before .before .before in
     let back = part-back (l .loop .image) (r .read-some .last .0) (l .loop .done) (r .read-some .kept .0) in
-    let more = part-held (l .loop .image) (r .read-some .last .0) (l .loop .done) (r .read-some .kept .0) _ _ (r .read-some .ensures) (g .got .given .1) (l .loop .inv .0) in
+    let more = part-held (l .loop .image) (r .read-some .last .0) (l .loop .done) (r .read-some .kept .0) _ _ (r .read-some .ensures) (g .count .given .1) (l .loop .inv .0) in
     (omega (arith, more, back), back ∙ l .loop .inv .1)
 
 read-past-requires : tie.Need-read-past-requires Inv-loop μ-loop
@@ -93,7 +93,7 @@ read-image-spec =
     part-read-some-start
     part-read-some-end
     read-some-requires
-    enum-known-got
+    enum-known-count
     enum-told
     same-length
     returns

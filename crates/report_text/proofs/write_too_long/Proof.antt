@@ -1,7 +1,7 @@
 -- `write_too_long` meets its contract. Assumes nothing.
 use mathlib.Core.Path.{_≡_}
 use lib.ListN.{length}
-use Rattle.report_text.proofs.TextLaws.{long-fits, long-written}
+use Rattle.report_text.proofs.TextLaws.{long-fits, long-text, long-written}
 use borrow.Author.Needs.{needs}
 use Rattle.report_text.proofs.write_too_long.Statement.{statement}
 use Rattle.report_text.proofs.write_too_long.Tie as tie
@@ -16,7 +16,7 @@ put-line-requires c κs =
     long-fits _ long
 
 returns : tie.Need-returns
-returns c = (λ image h. long-written (c .put-line .ensures) image h .0, λ image h. long-written (c .put-line .ensures) image h .1)
+returns c = let w = long-written (c .put-line .ensures) in (w .0, (w .1, long-text))
 
 pub write-too-long-spec : {M : Type 1} → statement M
 write-too-long-spec = tie.close (tie.spec slice-aggregate-put-line put-line-requires returns)
