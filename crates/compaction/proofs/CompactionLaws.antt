@@ -12,7 +12,7 @@ use Rattle.flash_model.proofs.BlockLaws.{new-length}
 use Rattle.flash_model.proofs.SoundLaws.{sound-measured}
 use Rattle.flash_model.proofs.RoomLaws.{holders-room, others-fit}
 use Rattle.partition.specs.Usable.{Usable}
-use Rattle.partition.specs.Listing.{places}
+use Rattle.listing.specs.Listing.{places}
 use Rattle.partition.proofs.UsableLaws.{usable-measured}
 use Rattle.journal.specs.Moving.{AllMoved}
 use Rattle.compaction.proofs.KeptLaws.{named-holders, named-others}

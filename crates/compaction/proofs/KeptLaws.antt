@@ -20,9 +20,9 @@ use Rattle.flash_model.proofs.MeasureLaws.{Measured, legal-below}
 use Rattle.flash_model.proofs.SoundLaws.{allocated-used}
 use Rattle.flash_model.proofs.HolderLaws.{is-holder-at}
 use Rattle.partition.specs.Usable.{Usable}
-use Rattle.partition.specs.Listing.{entryOf, places}
+use Rattle.listing.specs.Listing.{entryOf, places}
 use Rattle.partition.proofs.UsableLaws.{usable-measured, count-most, holder-none}
-use Rattle.partition.proofs.PlaceLaws.{places-length}
+use Rattle.listing.proofs.PlaceLaws.{places-length}
 use Rattle.journal.specs.Moving.{namedIn, namedBlocks}
 
 -- ---- tests on a range

@@ -2,9 +2,9 @@
 use journal::append::put_block;
 use journal::moving::finish;
 use journal::moving::keep_blocks;
+use listing::list_places;
 use measures::Measures;
 use measures::NUMBERS;
-use partition::listing::list_places;
 ghost use mathlib.Core.Path.{_≡_};
 ghost use mathlib.Core.List.{[], _∷_, _++_};
 ghost use Prim.Native.Nat.{_≤_};

@@ -17,10 +17,10 @@ use Rattle.flash_model.proofs.HolderLaws.{holder-held}
 use Rattle.bitmap.specs.Over.{asFound}
 use Rattle.bitmap.specs.declared.Found.the-variants.{At, Nothing}
 use Rattle.partition.specs.Usable.{Usable}
-use Rattle.partition.specs.Listing.{places, nonzero, asNext}
-use Rattle.partition.specs.declared.listing.Next.the-variants as nexts
+use Rattle.listing.specs.Listing.{places, nonzero, asNext}
+use Rattle.listing.specs.declared.Next.the-variants as nexts
 use Rattle.partition.proofs.OpenLaws.{found-at, found-nothing}
-use Rattle.partition.proofs.PlaceLaws.{places-length, live-entries}
+use Rattle.listing.proofs.PlaceLaws.{places-length, live-entries}
 use Rattle.flash.specs.Answers.{countsOf, nextOf, readRest, readBuffer}
 use Rattle.flash.specs.declared.Counts.{Counts}
 use Rattle.flash.specs.declared.LiveNumber.the-variants as liveNumbers

@@ -1,5 +1,3 @@
 pub mod PartLaws
 pub mod UsableLaws
 pub mod OpenLaws
-pub mod PlaceLaws
-pub mod NextLaws

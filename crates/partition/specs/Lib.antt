@@ -1,3 +1,2 @@
 pub mod Usable
 pub mod Opening
-pub mod Listing

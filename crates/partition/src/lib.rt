@@ -1,4 +1,3 @@
 // Reading a partition: its refusals, and where contents are.
 pub mod blocks;
-pub mod listing;
 pub mod opening;

@@ -10,8 +10,8 @@ use Rattle.words.specs.Lists.{keep}
 use Rattle.flash_model.specs.Measures.{logicalNumbers}
 use Rattle.flash_model.specs.UserBlock.{number, rightChecksum}
 use Rattle.flash_model.specs.Partition.{holder}
-use Rattle.partition.specs.declared.listing.Next.{Next}
-use Rattle.partition.specs.declared.listing.Next.the-variants.{Number, Nothing}
+use Rattle.listing.specs.declared.Next.{Next}
+use Rattle.listing.specs.declared.Next.the-variants.{Number, Nothing}
 
 -- A physical block as an entry of the area: 0 is none, since block 0 is the header.
 abbrev pub entryOf : Option ℕ → ℕ

@@ -19,9 +19,9 @@ use Rattle.flash_model.specs.UserBlock.{number, rightChecksum}
 use Rattle.flash_model.specs.Partition.{blockAt, holder, contents, live}
 use Rattle.flash_model.proofs.MeasureLaws.{legal-below}
 use Rattle.flash_model.proofs.HolderLaws.{holder-held, matches}
 use Rattle.partition.specs.Usable.{Usable}
-use Rattle.partition.specs.Listing.{entryOf, places, placed, nonzero}
+use Rattle.listing.specs.Listing.{entryOf, places, placed, nonzero}
 use Rattle.partition.proofs.UsableLaws.{usable-measured, holder-some}
 
 -- the entries once blocks 1 to k are entered
 unfoldable pub entered : List ℕ → ℕ → ℕ → List ℕ

@@ -4,10 +4,10 @@ use mathlib.Core.Path.{_≡_, refl, _∙_}
 use mathlib.Core.List.{_++_}
 use native.Mathlib.Omega.{arith}
 use lib.ListN.{length, drop}
 use Rattle.partition.proofs.UsableLaws.{usable-legal, usable-over, usable-measured, count-most}
-use Rattle.partition.proofs.PlaceLaws.{entered, entered-first, enter-step, places-at-end}
-use Rattle.partition.proofs.listing.list_places.Statement.{statement}
-use Rattle.partition.proofs.listing.list_places.Tie as tie
+use Rattle.listing.proofs.PlaceLaws.{entered, entered-first, enter-step, places-at-end}
+use Rattle.listing.proofs.list_places.Statement.{statement}
+use Rattle.listing.proofs.list_places.Tie as tie
 
 abbrev Inv-loop : tie.InvT-loop
 Inv-loop image m used area₀ end k₀ area k =

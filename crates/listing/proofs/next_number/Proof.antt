@@ -1,10 +1,10 @@
 -- `listing::next_number` meets its contract. The loop's invariant: the best so far of the blocks passed. Assumes nothing.
 use Prim.Native.Nat.{_+_, _-_, _≤_}
 use native.Mathlib.Omega.{arith}
 use Rattle.partition.proofs.UsableLaws.{usable-legal, usable-over, usable-measured, count-most}
-use Rattle.partition.proofs.NextLaws.{Best, best-first, best-next, next-is, next-none}
-use Rattle.partition.proofs.listing.next_number.Statement.{statement}
-use Rattle.partition.proofs.listing.next_number.Tie as tie
+use Rattle.listing.proofs.NextLaws.{Best, best-first, best-next, next-is, next-none}
+use Rattle.listing.proofs.next_number.Statement.{statement}
+use Rattle.listing.proofs.next_number.Tie as tie
 
 abbrev Inv-loop : tie.InvT-loop
 Inv-loop image m used start end best₀ k₀ best k = (1 ≤ k) × (k ≤ used + 1) × Best image start end k best

@@ -7,8 +7,8 @@ use native.Mathlib.Omega.{arith}
 use lib.ListN.{length, replicate, drop, length-set}
 use borrow.Author.Fill.{fill-more}
 use borrow.Author.Needs.{needs}
-use Rattle.partition.proofs.listing.clear.Statement.{statement}
-use Rattle.partition.proofs.listing.clear.Tie as tie
+use Rattle.listing.proofs.clear.Statement.{statement}
+use Rattle.listing.proofs.clear.Tie as tie
 
 abbrev Inv-loop : tie.InvT-loop
 Inv-loop area₀ count i₀ area i = (i ≤ count) × ((length area ≡ length area₀) × (area ≡ replicate i 0 ++ drop i area₀))

@@ -5,11 +5,11 @@ use mathlib.Core.Logic.{⊎-elim}
 use native.Mathlib.Omega.{arith}
 use borrow.Author.Tests.{eq-eqb, ne-eqb}
 use lib.ListN.{length, take}
-use Rattle.partition.specs.Listing.{nonzero}
-use Rattle.partition.proofs.PlaceLaws.{nonzero-next}
+use Rattle.listing.specs.Listing.{nonzero}
+use Rattle.listing.proofs.PlaceLaws.{nonzero-next}
 use borrow.Author.Needs.{needs}
-use Rattle.partition.proofs.listing.count_entries.Statement.{statement}
-use Rattle.partition.proofs.listing.count_entries.Tie as tie
+use Rattle.listing.proofs.count_entries.Statement.{statement}
+use Rattle.listing.proofs.count_entries.Tie as tie
 
 abbrev Inv-loop : tie.InvT-loop
 Inv-loop area count live₀ i₀ live i = (i ≤ count) × (live ≤ i) × (live ≡ nonzero (take i area))

@@ -17,9 +17,9 @@ use Rattle.flash_model.specs.Partition.{blockAt, contents, lowestLive}
 use Rattle.flash_model.proofs.MeasureLaws.{legal-below}
 use Rattle.flash_model.proofs.HolderLaws.{matches}
 use Rattle.flash_model.proofs.MeaningLaws.{next-live, live-none}
 use Rattle.partition.specs.Usable.{Usable}
-use Rattle.partition.specs.Listing.{lowered, asNext}
+use Rattle.listing.specs.Listing.{lowered, asNext}
 use Rattle.partition.proofs.UsableLaws.{usable-measured, holder-some}
 
 -- some block below k matches the number
 pub record Seen (image : List ℕ) (k n : ℕ) : Type 0 where

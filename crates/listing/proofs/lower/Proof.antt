@@ -1,11 +1,11 @@
 -- `listing::lower` meets its contract: each `return` is a case of `lowered`. Assumes nothing.
 use mathlib.Core.Path.{sym, _∙_}
 use borrow.Author.Tests.{le-leb, lt-leb, lt-ltb, le-ltb}
-use Rattle.partition.specs.Listing.{lowered}
+use Rattle.listing.specs.Listing.{lowered}
 use Rattle.partition.proofs.PartLaws.{number-front}
 use borrow.Author.Needs.{needs}
-use Rattle.partition.proofs.listing.lower.Statement.{statement}
-use Rattle.partition.proofs.listing.lower.Tie as tie
+use Rattle.listing.proofs.lower.Statement.{statement}
+use Rattle.listing.proofs.lower.Tie as tie
 
 word-requires : tie.Need-word-requires
 word-requires c κs = search needs

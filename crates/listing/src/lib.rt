@@ -1,7 +1,7 @@
 // One pass over the used blocks for whatever looks at all numbers.
-use crate::blocks::part_from;
-use crate::blocks::right_checksum;
 use measures::Measures;
+use partition::blocks::part_from;
+use partition::blocks::right_checksum;
 use words::word;
 ghost use mathlib.Core.Path.{_≡_};
 ghost use mathlib.Core.List.{_++_};
@@ -9,8 +9,8 @@ ghost use Prim.Native.Nat.{_≤_, _<_};
 ghost use lib.ListN.{length, take, drop, replicate};
 ghost use Rattle.flash_model.specs.Measures.{capacity};
 ghost use Rattle.flash_model.specs.Partition.{blockAt, live, lowestLive};
 ghost use Rattle.partition.specs.Usable.{Usable};
-ghost use Rattle.partition.specs.Listing.{places, placed, lowered, nonzero, asNext};
+ghost use Rattle.listing.specs.Listing.{places, placed, lowered, nonzero, asNext};
 
 // A logical number, or none.
 pub enum Next {

@@ -1,11 +1,11 @@
 -- `listing::enter` meets its contract: each way out is a case of `placed`. Assumes nothing.
 use mathlib.Core.Path.{sym, _∙_}
 use borrow.Author.Tests.{lt-ltb, le-ltb}
-use Rattle.partition.specs.Listing.{placed}
+use Rattle.listing.specs.Listing.{placed}
 use Rattle.partition.proofs.PartLaws.{number-front}
 use borrow.Author.Needs.{needs}
-use Rattle.partition.proofs.listing.enter.Statement.{statement}
-use Rattle.partition.proofs.listing.enter.Tie as tie
+use Rattle.listing.proofs.enter.Statement.{statement}
+use Rattle.listing.proofs.enter.Tie as tie
 
 word-requires : tie.Need-word-requires
 word-requires c κs = search needs
