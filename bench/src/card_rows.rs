@@ -4,47 +4,49 @@ use std::hint::black_box;
 
 use galtuyeg::raw;
 use independent::card as independent;
+use inputs::card::{Name, BLOCK};
 
-use crate::cards::{Card, Name, BLOCK};
+use crate::cards::Sample;
 use crate::rounds::{Restored, Row};
 use crate::table::Table;
 
-const NOTHING_LEFT: u64 = 31;
+const NOTHING_LEFT: u32 = 31;
 
 pub fn run(table: &Table) {
-    let sound = [Card::empty(), Card::of_short_files(), Card::of_one_file(), Card::with_game()];
-    for card in &sound {
-        check(table, card);
-        list(table, card);
-        if !card.files.is_empty() {
-            read(table, card);
+    let sound =
+        [Sample::empty(), Sample::of_short_files(), Sample::of_one_file(), Sample::with_game()];
+    for sample in &sound {
+        check(table, sample);
+        list(table, sample);
+        if !sample.card.files.is_empty() {
+            read(table, sample);
         }
     }
     let refused = [
-        Card::cut(),
-        Card::with_wrong_link(),
-        Card::with_shared_block(),
-        Card::with_all_shared(),
-        Card::with_same_name(),
-        Card::with_stirred_game(),
+        Sample::cut(),
+        Sample::with_wrong_link(),
+        Sample::with_shared_block(),
+        Sample::with_all_shared(),
+        Sample::with_same_name(),
+        Sample::with_stirred_game(),
     ];
-    for card in &refused {
-        check(table, card);
+    for sample in &refused {
+        check(table, sample);
     }
 }
 
-fn check(table: &Table, card: &Card) {
-    let image = &card.bytes[..];
+fn check(table: &Table, sample: &Sample) {
+    let image = &sample.card.bytes[..];
     let row = Row {
         call: "card check",
         inputs: &[()],
-        answer: card.code,
+        answer: sample.code,
         fresh: (),
         restored: Restored::EachTiming,
         ours: |_: &mut (), _: &()| raw::card_check(black_box(image)),
         theirs: |_: &mut (), _: &()| independent::check(black_box(image)),
     };
-    table.row(&card.name, &row);
+    table.row(&sample.name, &row);
 }
 
 /// The starts of a walk from 0 on until nothing is left.
@@ -58,8 +60,8 @@ fn starts(image: &[u8]) -> Vec<u64> {
     starts
 }
 
-fn list(table: &Table, card: &Card) {
-    let image = &card.bytes[..];
+fn list(table: &Table, sample: &Sample) {
+    let image = &sample.card.bytes[..];
     let row = Row {
         call: "card list, a walk",
         inputs: &starts(image),
@@ -69,17 +71,15 @@ fn list(table: &Table, card: &Card) {
         ours: |_: &mut (), &from: &u64| raw::card_list(black_box(image), from),
         theirs: |_: &mut (), &from: &u64| independent::list(black_box(image), from),
     };
-    table.row(&card.name, &row);
+    table.row(&sample.name, &row);
 }
 
 /// Every block of every file.
-fn read(table: &Table, card: &Card) {
-    let image = &card.bytes[..];
-    let blocks: Vec<(Name, u64)> = card
-        .files
-        .iter()
-        .flat_map(|&(name, size)| (0..size as u64).map(move |index| (name, index)))
-        .collect();
+fn read(table: &Table, sample: &Sample) {
+    let image = &sample.card.bytes[..];
+    let files = sample.card.files.iter().map(|file| (file.name, file.blocks.len() as u64));
+    let blocks: Vec<(Name, u64)> =
+        files.flat_map(|(name, size)| (0..size).map(move |index| (name, index))).collect();
     let row = Row {
         call: "card read",
         inputs: &blocks,
@@ -93,5 +93,5 @@ fn read(table: &Table, card: &Card) {
             independent::read(black_box(image), name, *index, block)
         },
     };
-    table.row(&card.name, &row);
+    table.row(&sample.name, &row);
 }

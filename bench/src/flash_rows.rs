@@ -4,39 +4,40 @@ use std::hint::black_box;
 
 use galtuyeg::raw;
 use independent::flash as independent;
+use inputs::flash::{BLOCK, PAGE, SIZES};
+use inputs::Prng;
 
-use crate::partitions::{Partition, BLOCK, NUMBER, PAGE, SIZES};
-use crate::prng::Prng;
+use crate::partitions::{Sample, NUMBER};
 use crate::rounds::{Restored, Row};
 use crate::table::Table;
 
 /// How many numbers are read or saved in turn.
 const SPREAD: usize = 16;
 
-const NOTHING_LEFT: u64 = 7;
+const NOTHING_LEFT: u32 = 7;
 
 pub fn run(table: &Table) {
     for size in SIZES {
-        let sparse = Partition::sparse(size);
-        let half = Partition::half_used(size);
-        let full = Partition::full(size);
-        for partition in [&sparse, &half, &full] {
-            check(table, partition);
-            report(table, partition);
-            next_live(table, partition);
+        let sparse = Sample::sparse(size);
+        let half = Sample::half_used(size);
+        let full = Sample::full(size);
+        for sample in [&sparse, &half, &full] {
+            check(table, sample);
+            report(table, sample);
+            next_live(table, sample);
         }
         read(table, &half);
         read(table, &full);
         append(table, &half);
-        compaction(table, &Partition::half_used_spoilt(size));
+        compaction(table, &Sample::half_used_spoilt(size));
         compaction(table, &full);
         erase(table, &half);
         erase(table, &full);
     }
 }
 
-fn check(table: &Table, partition: &Partition) {
-    let image = &partition.bytes[..];
+fn check(table: &Table, sample: &Sample) {
+    let image = &sample.partition.bytes[..];
     let row = Row {
         call: "check",
         inputs: &[NUMBER],
@@ -46,11 +47,11 @@ fn check(table: &Table, partition: &Partition) {
         ours: |_: &mut (), &number: &u8| raw::flash_check(black_box(image), number),
         theirs: |_: &mut (), &number: &u8| independent::check(black_box(image), number),
     };
-    table.row(&partition.name, &row);
+    table.row(&sample.name, &row);
 }
 
-fn report(table: &Table, partition: &Partition) {
-    let image = &partition.bytes[..];
+fn report(table: &Table, sample: &Sample) {
+    let image = &sample.partition.bytes[..];
     let row = Row {
         call: "report",
         inputs: &[NUMBER],
@@ -60,7 +61,7 @@ fn report(table: &Table, partition: &Partition) {
         ours: |_: &mut (), &number: &u8| raw::flash_report(black_box(image), number),
         theirs: |_: &mut (), &number: &u8| independent::report(black_box(image), number),
     };
-    table.row(&partition.name, &row);
+    table.row(&sample.name, &row);
 }
 
 /// The starts of a walk from 0 on until nothing is left.
@@ -74,8 +75,8 @@ fn starts(image: &[u8]) -> Vec<u64> {
     starts
 }
 
-fn next_live(table: &Table, partition: &Partition) {
-    let image = &partition.bytes[..];
+fn next_live(table: &Table, sample: &Sample) {
+    let image = &sample.partition.bytes[..];
     let row = Row {
         call: "next-live, a walk",
         inputs: &starts(image),
@@ -85,13 +86,13 @@ fn next_live(table: &Table, partition: &Partition) {
         ours: |_: &mut (), &from: &u64| raw::flash_next_live(black_box(image), NUMBER, from),
         theirs: |_: &mut (), &from: &u64| independent::next_live(black_box(image), NUMBER, from),
     };
-    table.row(&partition.name, &row);
+    table.row(&sample.name, &row);
 }
 
-fn read(table: &Table, partition: &Partition) {
-    let image = &partition.bytes[..];
+fn read(table: &Table, sample: &Sample) {
+    let image = &sample.partition.bytes[..];
     let numbers: Vec<u64> =
-        partition.spread(SPREAD).into_iter().map(|place| partition.block(place).0).collect();
+        sample.spread(SPREAD).into_iter().map(|place| sample.block(place).0).collect();
     let row = Row {
         call: "read",
         inputs: &numbers,
@@ -105,7 +106,7 @@ fn read(table: &Table, partition: &Partition) {
             independent::read(black_box(image), NUMBER, number, page)
         },
     };
-    table.row(&partition.name, &row);
+    table.row(&sample.name, &row);
 }
 
 /// A live number, what it holds and what it is to hold.
@@ -125,30 +126,28 @@ impl Save<'_> {
     }
 }
 
-fn saves(partition: &Partition) -> Vec<Save<'_>> {
-    let mut prng = Prng(5);
+fn saves(sample: &Sample) -> Vec<Save<'_>> {
+    let mut prng = Prng::new(5, 0);
     let save = |place| {
-        let (number, expected) = partition.block(place);
-        let mut page = [0; PAGE];
-        prng.fill(&mut page);
-        Save { number, expected, page }
+        let (number, expected) = sample.block(place);
+        Save { number, expected, page: prng.array() }
     };
-    partition.spread(SPREAD).into_iter().map(save).collect()
+    sample.spread(SPREAD).into_iter().map(save).collect()
 }
 
 /// Only what an append changes is restored: a copy of the whole image would take longer than the call.
-fn append(table: &Table, partition: &Partition) {
-    let next = (partition.used + 1) * BLOCK..(partition.used + 2) * BLOCK;
-    let bitmap = partition.bitmap * BLOCK;
+fn append(table: &Table, sample: &Sample) {
+    let next = (sample.partition.used + 1) * BLOCK..(sample.partition.used + 2) * BLOCK;
+    let bitmap = sample.partition.size.bitmap * BLOCK;
     let restore = |image: &mut [u8]| {
-        image[next.clone()].copy_from_slice(&partition.bytes[next.clone()]);
-        image[bitmap..].copy_from_slice(&partition.bytes[bitmap..]);
+        image[next.clone()].copy_from_slice(&sample.partition.bytes[next.clone()]);
+        image[bitmap..].copy_from_slice(&sample.partition.bytes[bitmap..]);
     };
     let row = Row {
         call: "save, append",
-        inputs: &saves(partition),
+        inputs: &saves(sample),
         answer: 0,
-        fresh: partition.bytes.clone(),
+        fresh: sample.partition.bytes.clone(),
         restored: Restored::InTiming,
         ours: |image: &mut Vec<u8>, save: &Save| {
             restore(image);
@@ -159,42 +158,42 @@ fn append(table: &Table, partition: &Partition) {
             save.theirs(image)
         },
     };
-    table.row(&partition.name, &row);
+    table.row(&sample.name, &row);
 }
 
-fn compaction(table: &Table, partition: &Partition) {
+fn compaction(table: &Table, sample: &Sample) {
     let row = Row {
         call: "save, compaction",
-        inputs: &saves(partition),
+        inputs: &saves(sample),
         answer: 0,
-        fresh: partition.bytes.clone(),
+        fresh: sample.partition.bytes.clone(),
         restored: Restored::EachCall,
         ours: |image: &mut Vec<u8>, save: &Save| save.ours(image),
         theirs: |image: &mut Vec<u8>, save: &Save| save.theirs(image),
     };
-    table.row(&partition.name, &row);
+    table.row(&sample.name, &row);
 }
 
-fn erase(table: &Table, partition: &Partition) {
+fn erase(table: &Table, sample: &Sample) {
     let row = Row {
         call: "erase",
         inputs: &[NUMBER],
         answer: 0,
-        fresh: partition.bytes.clone(),
+        fresh: sample.partition.bytes.clone(),
         restored: Restored::EachCall,
         ours: |image: &mut Vec<u8>, &number: &u8| raw::flash_erase(image, number),
         theirs: |image: &mut Vec<u8>, &number: &u8| independent::erase(image, number),
     };
-    table.row(&partition.name, &row);
+    table.row(&sample.name, &row);
 }
 
 #[cfg(test)]
 mod tests {
     use super::*;
 
-    fn used_after_save(partition: &Partition) -> (u64, u64) {
-        let mut image = partition.bytes.clone();
-        assert_eq!(saves(partition)[0].ours(&mut image), 0);
+    fn used_after_save(sample: &Sample) -> (u64, u64) {
+        let mut image = sample.partition.bytes.clone();
+        assert_eq!(saves(sample)[0].ours(&mut image), 0);
         let counts = raw::flash_report(&image, NUMBER);
         (counts.used, counts.live)
     }
@@ -202,9 +201,9 @@ mod tests {
     #[test]
     fn saves_take_the_way_of_their_row() {
         for size in SIZES {
-            let half = Partition::half_used(size);
-            assert_eq!(used_after_save(&half).0, half.used as u64 + 1);
-            for compacted in [Partition::half_used_spoilt(size), Partition::full(size)] {
+            let half = Sample::half_used(size);
+            assert_eq!(used_after_save(&half).0, half.partition.used as u64 + 1);
+            for compacted in [Sample::half_used_spoilt(size), Sample::full(size)] {
                 let (used, live) = used_after_save(&compacted);
                 assert_eq!(used, live);
             }

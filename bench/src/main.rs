@@ -1,14 +1,12 @@
 //! Times the proved library, through its C interface, and the independent implementation on the same
 //! inputs.
 
-mod agreement;
 mod args;
 mod card_rows;
 mod cards;
 mod flash_rows;
 mod machine;
 mod partitions;
-mod prng;
 mod rounds;
 mod table;
 

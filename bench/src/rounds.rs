@@ -4,7 +4,7 @@
 use std::hint::black_box;
 use std::time::{Duration, Instant};
 
-use crate::agreement::Agrees;
+use inputs::answers::Answer;
 
 /// How what a call writes to is made fresh again.
 #[derive(Clone, Copy, PartialEq)]
@@ -23,7 +23,7 @@ pub struct Row<'a, I, S, Ours, Theirs> {
     /// One pass makes the call with each of these in turn.
     pub inputs: &'a [I],
     /// The number that the last of them is answered; those before it are done.
-    pub answer: u64,
+    pub answer: u32,
     /// What the call writes to, as it is before.
     pub fresh: S,
     pub restored: Restored,
@@ -37,12 +37,12 @@ pub struct Round {
     pub theirs: f64,
 }
 
-impl<I, S, Ours, Theirs, A, B> Row<'_, I, S, Ours, Theirs>
+impl<I, S, Ours, Theirs, T> Row<'_, I, S, Ours, Theirs>
 where
     S: Clone + PartialEq,
-    Ours: Fn(&mut S, &I) -> A,
-    Theirs: Fn(&mut S, &I) -> B,
-    A: Agrees<B>,
+    Ours: Fn(&mut S, &I) -> T::Raw,
+    Theirs: Fn(&mut S, &I) -> T,
+    T: Answer,
 {
     /// `least` is what one timing takes at least. Each side has as many passes as that takes it: were
     /// the slower side's timings longer, other work on the machine would fall on it more often.
@@ -70,8 +70,8 @@ where
             let ours = (self.ours)(&mut left, input);
             let theirs = (self.theirs)(&mut other, input);
             let answer = if at + 1 == self.inputs.len() { self.answer } else { 0 };
-            assert_eq!(ours.code(), answer, "{}: not the answer to input {at}", self.call);
-            assert!(ours.agrees(&theirs), "{}: the answers to input {at} differ", self.call);
+            assert_eq!(theirs.number(), answer, "{}: not the answer to input {at}", self.call);
+            assert!(ours == theirs.raw(), "{}: the answers to input {at} differ", self.call);
             assert!(left == other, "{}: the bytes left by input {at} differ", self.call);
         }
         left

@@ -1,6 +1,7 @@
 //! The printed table: a line for each row as soon as it is measured.
 
-use crate::agreement::Agrees;
+use inputs::answers::Answer;
+
 use crate::args::Args;
 use crate::rounds::{Restored, Round, Row};
 
@@ -16,12 +17,12 @@ impl Table {
     }
 
     /// Measures the row, unless it is not asked for, and prints its line.
-    pub fn row<I, S, Ours, Theirs, A, B>(&self, on: &str, row: &Row<'_, I, S, Ours, Theirs>)
+    pub fn row<I, S, Ours, Theirs, T>(&self, on: &str, row: &Row<'_, I, S, Ours, Theirs>)
     where
         S: Clone + PartialEq,
-        Ours: Fn(&mut S, &I) -> A,
-        Theirs: Fn(&mut S, &I) -> B,
-        A: Agrees<B>,
+        Ours: Fn(&mut S, &I) -> T::Raw,
+        Theirs: Fn(&mut S, &I) -> T,
+        T: Answer,
     {
         let title = format!("| {} | {on} |", row.call);
         if self.args.only.as_ref().is_some_and(|text| !title.contains(text)) {

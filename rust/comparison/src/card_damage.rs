@@ -1,9 +1,7 @@
 //! Damage to a card, aimed at one refusal each. Where the card has nothing to aim at it stays as it is.
 
-use crate::card_builder::{
-    put, Card, DAMAGED, ENTRIES, FREE, GAME, LAST, ROOT, ROOT_FIELDS, TABLE, USER,
-};
-use crate::prng::Prng;
+use inputs::card::{put, Card, DAMAGED, ENTRIES, FREE, GAME, LAST, ROOT, ROOT_FIELDS, TABLE, USER};
+use inputs::Prng;
 
 /// The refusals that damage can aim at.
 pub const TARGETS: [u32; 10] = [21, 22, 23, 24, 25, 26, 27, 28, 29, 30];
@@ -125,7 +123,7 @@ fn same_name(prng: &mut Prng, card: &mut Card) {
 
 /// A game out of order, or one that is made of a data file: a second one, or not at block 0.
 fn game_rule(prng: &mut Prng, card: &mut Card) {
-    let game = card.files.iter().find(|file| file.game);
+    let game = card.files.iter().find(|file| file.kind == GAME);
     let blocks = game.map_or(Vec::new(), |file| file.blocks.clone());
     if blocks.len() > 2 && prng.one_in(2) {
         let mut stirred = blocks;

@@ -1,16 +1,18 @@
 //! Rounds on memory cards.
 
-use crate::card_builder::{Card, Shape, BLOCK, CARD};
+use inputs::card::{Card, BLOCK, CARD};
+use inputs::Prng;
+
+use crate::card_builder::{build, Shape};
 use crate::card_compare::{self as compare, Read};
 use crate::card_damage::{aim, stray_bit, TARGETS};
 use crate::lent::Lent;
-use crate::prng::Prng;
 use crate::round::Round;
 
 /// Sound cards: all entries listed, blocks read, and reads that are refused.
 pub fn sound(round: &mut Round) {
     let shape = Shape::any(&mut round.prng);
-    let card = Card::build(&mut round.prng, &shape);
+    let card = build(&mut round.prng, &shape);
     let mut image = round.lend(&card.bytes);
     compare::check(round, &mut image);
     walk_entries(round, &mut image);
@@ -33,7 +35,7 @@ pub fn aimed(round: &mut Round) {
         let any = round.prng.within(129..=200);
         shape.game = Some(round.prng.pick(&[129, 200, any]));
     }
-    let mut card = Card::build(&mut round.prng, &shape);
+    let mut card = build(&mut round.prng, &shape);
     if !long_game {
         aim(&mut round.prng, &mut card, target);
     }
@@ -44,7 +46,7 @@ pub fn aimed(round: &mut Round) {
 /// Several damages aimed near each other, where the order of refusals and of places decides.
 pub fn battered(round: &mut Round) {
     let shape = Shape::rich(&mut round.prng);
-    let mut card = Card::build(&mut round.prng, &shape);
+    let mut card = build(&mut round.prng, &shape);
     let near = round.prng.below(TARGETS.len() - 2);
     let times = round.prng.within(2..=4);
     for _ in 0..times {
@@ -62,7 +64,7 @@ pub fn battered(round: &mut Round) {
 /// Cards of every length, cut or drawn out, and blank ones.
 pub fn lengths(round: &mut Round) {
     let shape = Shape::rich(&mut round.prng);
-    let mut card = Card::build(&mut round.prng, &shape);
+    let mut card = build(&mut round.prng, &shape);
     let edges = [0, 1, 511, 512, 65_536, CARD - 1, CARD + 1, CARD + 512, 2 * CARD];
     let length = match round.prng.below(3) {
         0 => round.prng.below(CARD + 1_000),
@@ -93,7 +95,7 @@ fn walk_entries(round: &mut Round, image: &mut Lent) {
 fn any_from(prng: &mut Prng) -> u64 {
     match prng.below(6) {
         0 => prng.pick(&[206, 207, 208, 209, 255, 256, 1 << 16, 1 << 32, u64::MAX]),
-        1 => prng.next() >> prng.below(64),
+        1 => prng.draw() >> prng.below(64),
         _ => prng.below(208) as u64,
     }
 }
@@ -123,8 +125,8 @@ fn ask_read(round: &mut Round, image: &mut Lent, card: &Card) {
     spoil_name(prng, &mut name);
     let index = match prng.below(6) {
         0 => prng.pick(&[size - 1, size, size + 1, 199, 200, 256, u64::MAX]),
-        1 => prng.next() % size + prng.pick(&[1 << 8, 1 << 16, 1 << 32]),
-        _ => prng.next() % size,
+        1 => prng.draw() % size + prng.pick(&[1 << 8, 1 << 16, 1 << 32]),
+        _ => prng.draw() % size,
     };
     let length = match prng.below(8) {
         0 => prng.pick(&[0, 1, 511, 513, 1_024]),

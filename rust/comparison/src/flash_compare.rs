@@ -2,6 +2,7 @@
 
 use galtuyeg::{flash, raw};
 use independent::flash as independent;
+use inputs::answers::{no_live, no_report, Answer};
 
 use crate::lent::Lent;
 use crate::round::Round;
@@ -23,16 +24,7 @@ pub fn check(round: &mut Round, image: &mut Lent, partition: u8) -> u32 {
 
 pub fn report(round: &mut Round, image: &mut Lent, partition: u8) {
     let proved = raw::flash_report(image.proved.get(), partition);
-    let other = match independent::report(image.independent.get(), partition) {
-        Ok(report) => raw::Report {
-            code: 0,
-            version: report.version.into(),
-            capacity: report.capacity,
-            used: report.used,
-            live: report.live,
-        },
-        Err(number) => refused_report(number),
-    };
+    let other = independent::report(image.independent.get(), partition).raw();
     let mut case = round.compare(Call::FlashReport, format!("partition {partition}"));
     case.answered(proved.code);
     case.same("report", proved, other);
@@ -45,7 +37,7 @@ pub fn report(round: &mut Round, image: &mut Lent, partition: u8) {
                 used: report.used.into(),
                 live: report.live.into(),
             },
-            Err(refusal) => refused_report(refusal.number()),
+            Err(refusal) => no_report(refusal.number()),
         };
         case.typed(typed, proved);
     }
@@ -54,10 +46,7 @@ pub fn report(round: &mut Round, image: &mut Lent, partition: u8) {
 
 pub fn next_live(round: &mut Round, image: &mut Lent, partition: u8, from: u64) -> Option<u64> {
     let proved = raw::flash_next_live(image.proved.get(), partition, from);
-    let other = match independent::next_live(image.independent.get(), partition, from) {
-        Ok(number) => raw::NextLive { code: 0, number },
-        Err(number) => refused_next(number),
-    };
+    let other = independent::next_live(image.independent.get(), partition, from).raw();
     let asked = format!("partition {partition} from {from}");
     let mut case = round.compare(Call::FlashNextLive, asked);
     case.answered(proved.code);
@@ -65,8 +54,8 @@ pub fn next_live(round: &mut Round, image: &mut Lent, partition: u8, from: u64) 
     if case.wants_typed() {
         let typed = match flash::next_live(image.proved.get(), partition, from) {
             Ok(Some(number)) => raw::NextLive { code: 0, number },
-            Ok(None) => refused_next(7),
-            Err(refusal) => refused_next(refusal.number()),
+            Ok(None) => no_live(7),
+            Err(refusal) => no_live(refusal.number()),
         };
         case.typed(typed, proved);
     }
@@ -174,12 +163,4 @@ fn typed_save(image: &[u8], asked: &Save) -> Option<(u32, Vec<u8>)> {
 
 fn number_of(answer: Result<(), flash::Refusal>) -> u32 {
     answer.map_or_else(flash::Refusal::number, |()| 0)
-}
-
-fn refused_report(number: u32) -> raw::Report {
-    raw::Report { code: number.into(), version: 0, capacity: 0, used: 0, live: 0 }
-}
-
-fn refused_next(number: u32) -> raw::NextLive {
-    raw::NextLive { code: number.into(), number: 0 }
 }

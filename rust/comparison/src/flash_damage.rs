@@ -1,17 +1,17 @@
 //! Damage to a partition image of any length: header, bitmap, blocks.
 
-use crate::flash_inputs::{flip_bitmap_bit, seal, Partition, BLOCK};
-use crate::prng::Prng;
+use inputs::flash::{block_mut, flip_bitmap_bit, seal, Partition, Size, BLOCK};
+use inputs::Prng;
 
 /// The places where an image of a partition's making is damaged.
 pub struct Damage {
     number: u8,
-    bitmap: usize,
+    size: Size,
 }
 
 impl Damage {
     pub fn of(partition: &Partition) -> Damage {
-        Damage { number: partition.number, bitmap: partition.bitmap }
+        Damage { number: partition.number, size: partition.size }
     }
 
     /// Anything at all, header and bitmap included.
@@ -28,46 +28,49 @@ impl Damage {
 
     /// To user blocks alone: a sound partition stays sound.
     pub fn blocks(&self, prng: &mut Prng, bytes: &mut [u8]) {
-        let place = prng.within(1..=self.bitmap - 1);
+        let place = self.place(prng);
         match prng.below(6) {
             0 => self.copy_block(prng, bytes, place),
             1 => self.renumber(prng, bytes, place),
             2 => self.older_page(prng, bytes, place),
-            3 => bytes[place * BLOCK..][..BLOCK].fill(0xff),
-            4 => prng.fill(&mut bytes[place * BLOCK..][..BLOCK]),
-            _ => prng.flip_bit(&mut bytes[place * BLOCK..][..BLOCK]),
+            3 => block_mut(bytes, place).fill(0xff),
+            4 => prng.fill(block_mut(bytes, place)),
+            _ => prng.flip_bit(block_mut(bytes, place)),
         }
+    }
+
+    fn place(&self, prng: &mut Prng) -> usize {
+        prng.within(1..=self.size.capacity())
     }
 
     /// A bitmap bit flipped, often next to the border between allocated and free.
     fn hole(&self, prng: &mut Prng, bytes: &mut [u8]) {
-        let map = &bytes[self.bitmap * BLOCK..];
+        let map = &bytes[self.size.bitmap * BLOCK..];
         let border = 8 * map.iter().position(|&byte| byte != 0).unwrap_or(0);
-        let near = (border + prng.below(24)).clamp(1, self.bitmap - 1);
-        let place = if prng.one_in(2) { near } else { prng.within(1..=self.bitmap - 1) };
-        flip_bitmap_bit(bytes, self.bitmap, place);
+        let near = (border + prng.below(24)).clamp(1, self.size.capacity());
+        let place = if prng.one_in(2) { near } else { self.place(prng) };
+        flip_bitmap_bit(bytes, self.size, place);
     }
 
     fn copy_block(&self, prng: &mut Prng, bytes: &mut [u8], place: usize) {
-        let to = prng.within(1..=self.bitmap - 1);
+        let to = self.place(prng);
         bytes.copy_within(place * BLOCK..(place + 1) * BLOCK, to * BLOCK);
     }
 
     /// A legal or a high number, with a right checksum.
     fn renumber(&self, prng: &mut Prng, bytes: &mut [u8], place: usize) {
-        let capacity = self.bitmap as u16 - 1;
-        let near = capacity - 2 + prng.below(5) as u16;
+        let near = self.size.capacity() as u16 - 2 + prng.below(5) as u16;
         let number = prng.pick_or_word(&[near, 0xffff, 0]);
-        let block = &mut bytes[place * BLOCK..][..BLOCK];
+        let block = block_mut(bytes, place);
         block[..2].copy_from_slice(&number.to_le_bytes());
         seal(block);
     }
 
     /// The same number with another page and a right checksum, at another place.
     fn older_page(&self, prng: &mut Prng, bytes: &mut [u8], place: usize) {
-        let to = prng.within(1..=self.bitmap - 1);
+        let to = self.place(prng);
         bytes.copy_within(place * BLOCK..(place + 1) * BLOCK, to * BLOCK);
-        let block = &mut bytes[to * BLOCK..][..BLOCK];
+        let block = block_mut(bytes, to);
         prng.fill(&mut block[2..62]);
         seal(block);
     }

@@ -1,11 +1,14 @@
 //! Rounds on flash partitions.
 
+use inputs::flash::{Partition, MAGIC};
+use inputs::Prng;
+
+use crate::flash_arguments::{any_page, number, page, partition_number};
+use crate::flash_builder as builder;
 use crate::flash_compare::{self as compare, Save};
 use crate::flash_damage::Damage;
-use crate::flash_inputs::{any_page, number, page, partition_number, Partition, MAGIC};
 use crate::flash_writers;
 use crate::lent::Lent;
-use crate::prng::Prng;
 use crate::round::Round;
 
 /// Images of every length, with a header or without.
@@ -18,7 +21,7 @@ pub fn lengths(round: &mut Round) {
 
 /// Built partitions, damaged or not.
 pub fn built(round: &mut Round) {
-    let mut partition = Partition::mixed(&mut round.prng);
+    let mut partition = builder::mixed(&mut round.prng);
     let damage = Damage::of(&partition);
     let times = round.prng.pick(&[0, 1, 1, 2, 5]);
     for _ in 0..times {
@@ -28,14 +31,14 @@ pub fn built(round: &mut Round) {
     if round.prng.one_in(4) {
         walk_live(round, &mut image, partition.number);
     }
-    ask_everything(round, &mut image, partition.number, partition.top());
+    ask_everything(round, &mut image, partition.number, partition.size.top());
 }
 
 /// Saves, erases and damage to blocks in turn.
 pub fn grown(round: &mut Round) {
     let partition = start(&mut round.prng);
     let damage = Damage::of(&partition);
-    let (own, top) = (partition.number, partition.top());
+    let (own, top) = (partition.number, partition.size.top());
     let mut image = round.lend(&partition.bytes);
     let steps = round.prng.within(1..=60);
     for _ in 0..steps {
@@ -51,8 +54,8 @@ pub fn grown(round: &mut Round) {
 
 /// Every number live: each save takes the long way.
 pub fn full(round: &mut Round) {
-    let partition = Partition::full(&mut round.prng);
-    let (own, top) = (partition.number, partition.top());
+    let partition = builder::full(&mut round.prng);
+    let (own, top) = (partition.number, partition.size.top());
     let mut image = round.lend(&partition.bytes);
     let saves = round.prng.within(1..=4);
     for _ in 0..saves {
@@ -65,16 +68,16 @@ pub fn full(round: &mut Round) {
 pub fn writers(round: &mut Round) {
     let partition = start(&mut round.prng);
     let mut image = round.lend(&partition.bytes);
-    flash_writers::run(round, &mut image, partition.number, partition.top());
+    flash_writers::run(round, &mut image, partition.number, partition.size.top());
     ask_whole(round, &mut image, partition.number);
 }
 
 /// A sound partition: empty, mixed or full.
 fn start(prng: &mut Prng) -> Partition {
     match prng.below(6) {
-        0 | 1 => Partition::formatted(prng),
-        2 => Partition::full(prng),
-        _ => Partition::mixed(prng),
+        0 | 1 => builder::formatted(prng),
+        2 => builder::full(prng),
+        _ => builder::mixed(prng),
     }
 }
 

@@ -3,8 +3,10 @@
 
 use std::collections::BTreeMap;
 
+use inputs::flash::PAGE;
+
+use crate::flash_arguments::{any_page, number, page, partition_number};
 use crate::flash_compare::{self as compare, Save};
-use crate::flash_inputs::{any_page, number, page, partition_number, PAGE};
 use crate::flash_rounds::{ask_read, ask_whole};
 use crate::lent::Lent;
 use crate::round::Round;

@@ -2,7 +2,7 @@
 
 use std::hint::black_box;
 
-use crate::prng::Prng;
+use inputs::Prng;
 
 const GUARD: usize = 64;
 

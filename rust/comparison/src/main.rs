@@ -6,13 +6,13 @@ mod card_builder;
 mod card_compare;
 mod card_damage;
 mod card_rounds;
+mod flash_arguments;
+mod flash_builder;
 mod flash_compare;
 mod flash_damage;
-mod flash_inputs;
 mod flash_rounds;
 mod flash_writers;
 mod lent;
-mod prng;
 mod round;
 mod tally;
 

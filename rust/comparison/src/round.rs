@@ -2,8 +2,9 @@
 
 use std::fmt::Debug;
 
+use inputs::Prng;
+
 use crate::lent::Lent;
-use crate::prng::Prng;
 use crate::tally::{Call, Tally};
 
 /// Differences printed in full; the rest are only counted.

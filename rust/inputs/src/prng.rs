@@ -7,14 +7,14 @@ pub struct Prng {
 }
 
 impl Prng {
-    /// The numbers of one round: every round has its own, so that it can be run alone.
-    pub fn new(seed: u64, round: u64) -> Prng {
-        let mut mixed = seed ^ round.wrapping_mul(0xd134_2543_de82_ef95);
+    /// The numbers of one part of a run: every part has its own, so that it can be run alone.
+    pub fn new(seed: u64, part: u64) -> Prng {
+        let mut mixed = seed ^ part.wrapping_mul(0xd134_2543_de82_ef95);
         let state = std::array::from_fn(|_| splitmix(&mut mixed));
         Prng { state }
     }
 
-    pub fn next(&mut self) -> u64 {
+    pub fn draw(&mut self) -> u64 {
         let s = &mut self.state;
         let drawn = s[1].wrapping_mul(5).rotate_left(7).wrapping_mul(9);
         let shifted = s[1] << 17;
@@ -29,7 +29,7 @@ impl Prng {
 
     /// A number below `limit`, which is not 0.
     pub fn below(&mut self, limit: usize) -> usize {
-        (self.next() % limit as u64) as usize
+        (self.draw() % limit as u64) as usize
     }
 
     pub fn within(&mut self, range: RangeInclusive<usize>) -> usize {
@@ -41,11 +41,11 @@ impl Prng {
     }
 
     pub fn byte(&mut self) -> u8 {
-        self.next() as u8
+        self.draw() as u8
     }
 
     pub fn word(&mut self) -> u16 {
-        self.next() as u16
+        self.draw() as u16
     }
 
     pub fn pick<T: Copy>(&mut self, from: &[T]) -> T {
@@ -70,7 +70,7 @@ impl Prng {
 
     pub fn fill(&mut self, bytes: &mut [u8]) {
         for part in bytes.chunks_mut(8) {
-            let drawn = self.next().to_le_bytes();
+            let drawn = self.draw().to_le_bytes();
             part.copy_from_slice(&drawn[..part.len()]);
         }
     }

@@ -1,0 +1,9 @@
+//! What the comparison and the benchmark share: partitions and cards made byte by byte, random numbers
+//! that a seed fixes, and the independent implementation's answers as the C interface gives them.
+
+pub mod answers;
+pub mod card;
+pub mod flash;
+mod prng;
+
+pub use prng::Prng;
