@@ -13,7 +13,7 @@ fn main() {
     assert!(
         library.is_file(),
         "{} is missing: `rt staticlib capi`, run at the root of the repository, makes it. \
-         Where it is elsewhere, {LIB_DIR} names its directory.",
+         Where it is elsewhere, {LIB_DIR} names its directory, from / on or from rust/galtuyeg.",
         library.display()
     );
     println!("cargo:rustc-link-search=native={}", dir.display());

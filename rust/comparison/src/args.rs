@@ -11,7 +11,7 @@ Runs the proved library and the independent implementation on the same inputs an
   --seed N     fixes all inputs (default 1)
   --rounds N   how many rounds (default 20000); below that, fewer answers of each number are asked for
   --only N     runs round N alone, which is the same as among others, and asks for no number
-  --bare       no guard bytes: buffers end where their allocations end, for a memory checker to watch
+  --bare       no guard bytes: buffers begin and end where their allocations do, for a memory checker to watch
   --help       prints this
 
 Exits with 1 after a difference, or where a number was answered too seldom; with 2 if not called so.";

@@ -1,4 +1,4 @@
-//! Damage to a partition image of any length: header, bitmap, blocks.
+//! Damage to the image of a partition: header, bitmap, blocks.
 
 use inputs::flash::{block_mut, flip_bitmap_bit, seal, Partition, Size, BLOCK};
 use inputs::Prng;
@@ -32,7 +32,7 @@ impl Damage {
         match prng.below(6) {
             0 => self.copy_block(prng, bytes, place),
             1 => self.renumber(prng, bytes, place),
-            2 => self.older_page(prng, bytes, place),
+            2 => self.other_page(prng, bytes, place),
             3 => block_mut(bytes, place).fill(0xff),
             4 => prng.fill(block_mut(bytes, place)),
             _ => prng.flip_bit(block_mut(bytes, place)),
@@ -66,8 +66,9 @@ impl Damage {
         seal(block);
     }
 
-    /// The same number with another page and a right checksum, at another place.
-    fn older_page(&self, prng: &mut Prng, bytes: &mut [u8], place: usize) {
+    /// The same number with another page and a right checksum, at any place: the newer copy if that is
+    /// above.
+    fn other_page(&self, prng: &mut Prng, bytes: &mut [u8], place: usize) {
         let to = self.place(prng);
         bytes.copy_within(place * BLOCK..(place + 1) * BLOCK, to * BLOCK);
         let block = block_mut(bytes, to);

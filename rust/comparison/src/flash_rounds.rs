@@ -34,7 +34,7 @@ pub fn built(round: &mut Round) {
     ask_everything(round, &mut image, partition.number, partition.size.top());
 }
 
-/// Saves, erases and damage to blocks in turn.
+/// Saves, erases and damage to blocks, in any order.
 pub fn grown(round: &mut Round) {
     let partition = start(&mut round.prng);
     let damage = Damage::of(&partition);
@@ -42,10 +42,11 @@ pub fn grown(round: &mut Round) {
     let mut image = round.lend(&partition.bytes);
     let steps = round.prng.within(1..=60);
     for _ in 0..steps {
-        match round.prng.below(8) {
+        match round.prng.below(9) {
             0 => image.change(|bytes| damage.blocks(&mut round.prng, bytes)),
-            1 => ask_whole(round, &mut image, own),
-            2 => ask_read(round, &mut image, own, top),
+            1 => ask_erase(round, &mut image, own),
+            2 => ask_whole(round, &mut image, own),
+            3 => ask_read(round, &mut image, own, top),
             _ => save_over_contents(round, &mut image, own, top),
         }
     }
@@ -114,8 +115,7 @@ fn ask_everything(round: &mut Round, image: &mut Lent, own: u8, top: u64) {
     compare::next_live(round, image, partition, from);
     save_over_contents(round, image, own, top);
     ask_read(round, image, own, top);
-    let partition = partition_number(&mut round.prng, own);
-    compare::erase(round, image, partition);
+    ask_erase(round, image, own);
     compare::report(round, image, own);
 }
 
@@ -133,6 +133,11 @@ pub fn ask_read(round: &mut Round, image: &mut Lent, own: u8, top: u64) {
     let asked = number(&mut round.prng, top);
     let buffer = any_page(&mut round.prng);
     compare::read(round, image, partition, asked, &buffer);
+}
+
+pub fn ask_erase(round: &mut Round, image: &mut Lent, own: u8) {
+    let partition = partition_number(&mut round.prng, own);
+    compare::erase(round, image, partition);
 }
 
 /// All live numbers by next-live from 0 up.

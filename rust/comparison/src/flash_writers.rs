@@ -7,7 +7,7 @@ use inputs::flash::PAGE;
 
 use crate::flash_arguments::{any_page, number, page, partition_number};
 use crate::flash_compare::{self as compare, Save};
-use crate::flash_rounds::{ask_read, ask_whole};
+use crate::flash_rounds::{ask_erase, ask_read, ask_whole};
 use crate::lent::Lent;
 use crate::round::Round;
 
@@ -29,7 +29,7 @@ pub fn run(round: &mut Round, image: &mut Lent, own: u8, top: u64) {
             27 => ask_read(round, image, own, top),
             28..=29 => list(round, image, own, top),
             30 => improper_save(round, image, own, asked),
-            _ => compact(round, image, own),
+            _ => ask_erase(round, image, own),
         }
     }
 }
@@ -69,9 +69,4 @@ fn improper_save(round: &mut Round, image: &mut Lent, own: u8, asked: u64) {
         page: &any_page(&mut round.prng),
     };
     compare::save(round, image, &save);
-}
-
-fn compact(round: &mut Round, image: &mut Lent, own: u8) {
-    let partition = partition_number(&mut round.prng, own);
-    compare::erase(round, image, partition);
 }

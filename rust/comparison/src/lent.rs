@@ -41,11 +41,14 @@ impl Guarded {
     }
 }
 
-/// Half of the buffers begin where an allocation may, the others anywhere, odd places included.
-fn shift(prng: &mut Prng) -> usize {
-    match prng.one_in(2) {
-        true => 0,
-        false => prng.below(16),
+/// Half of the buffers begin where an allocation may, the others anywhere, odd places included. Bare
+/// ones begin where their allocation does; they draw all the same, so that a round's inputs stay.
+fn shift(bare: bool, prng: &mut Prng) -> usize {
+    let drawn = if prng.one_in(2) { 0 } else { prng.below(16) };
+    if bare {
+        0
+    } else {
+        drawn
     }
 }
 
@@ -64,8 +67,8 @@ impl Lent {
     pub fn new(content: &[u8], bare: bool, prng: &mut Prng) -> Lent {
         let guard = if bare { 0 } else { GUARD };
         Lent {
-            proved: Guarded::new(content, guard, shift(prng)),
-            independent: Guarded::new(content, guard, shift(prng)),
+            proved: Guarded::new(content, guard, shift(bare, prng)),
+            independent: Guarded::new(content, guard, shift(bare, prng)),
             before: content.to_vec(),
         }
     }
@@ -138,6 +141,20 @@ mod tests {
             let fault = buffer.fault(true).unwrap();
             assert!(fault.contains("outside"), "{fault}");
         }
+    }
+
+    #[test]
+    fn bare_buffers_fill_their_allocations() {
+        let (mut bare, mut guarded) = (Prng::new(1, 1), Prng::new(1, 1));
+        for length in 0..100 {
+            let content = vec![7; length];
+            let lent = Lent::new(&content, true, &mut bare);
+            Lent::new(&content, false, &mut guarded);
+            for side in [&lent.proved, &lent.independent] {
+                assert_eq!((side.start, side.end), (0, side.bytes.capacity()));
+            }
+        }
+        assert_eq!(bare.draw(), guarded.draw());
     }
 
     #[test]

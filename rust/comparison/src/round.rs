@@ -46,7 +46,7 @@ impl Case<'_, '_> {
     /// Counts the proved library's number, which [`Case::same`] compares.
     pub fn answered(&mut self, number: u64) {
         if !self.round.tally.count(self.call, number) {
-            self.differs(&format!("the number {number} is in no table"));
+            self.differs(&format!("the number {number} is none that this call may give"));
         }
     }
 

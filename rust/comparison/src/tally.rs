@@ -44,6 +44,19 @@ impl Call {
             Call::CardRead => "card_read",
         }
     }
+
+    /// The numbers that the header says of each call.
+    fn may_give(self, number: u64) -> bool {
+        match self {
+            Call::FlashCheck | Call::FlashReport | Call::FlashErase => matches!(number, 0..=5),
+            Call::FlashNextLive => matches!(number, 0..=5 | 7),
+            Call::FlashRead => matches!(number, 0..=8),
+            Call::FlashSave => matches!(number, 0..=6 | 8 | 9),
+            Call::CardCheck => matches!(number, 0 | 20..=30),
+            Call::CardList => matches!(number, 0 | 20..=31),
+            Call::CardRead => matches!(number, 0 | 20..=33),
+        }
+    }
 }
 
 pub struct Tally {
@@ -57,14 +70,13 @@ impl Tally {
         Tally { answers: [[0; NUMBERS]; 9], typed: 0, differences: 0 }
     }
 
-    /// Whether the number is one that a call may give.
+    /// Whether the number is one that this call may give; only then is it counted.
     pub fn count(&mut self, call: Call, number: u64) -> bool {
-        let slot = usize::try_from(number).unwrap_or(NUMBERS);
-        let Some(answers) = self.answers[call as usize].get_mut(slot) else {
-            return false;
-        };
-        *answers += 1;
-        true
+        let may_be = call.may_give(number);
+        if may_be {
+            self.answers[call as usize][number as usize] += 1;
+        }
+        may_be
     }
 
     pub fn count_typed(&mut self) {
@@ -120,5 +132,41 @@ impl Tally {
     fn total(&self, calls: &[Call], number: u64) -> u64 {
         let answers = calls.iter().map(|&call| self.answers[call as usize][number as usize]);
         answers.sum()
+    }
+}
+
+#[cfg(test)]
+mod tests {
+    use super::*;
+
+    fn counted(call: Call) -> Vec<u64> {
+        let mut tally = Tally::new();
+        (0..=300).chain([u64::MAX]).filter(|&number| tally.count(call, number)).collect()
+    }
+
+    #[test]
+    fn the_lists_have_what_their_calls_may_give() {
+        for (calls, list) in [(&FLASH_CALLS[..], &FLASH[..]), (&CARD_CALLS, &CARD)] {
+            let given: Vec<u64> = calls.iter().flat_map(|&call| counted(call)).collect();
+            assert!(given.iter().all(|number| list.contains(number)));
+            assert!(list.iter().all(|number| given.contains(number)));
+        }
+    }
+
+    #[test]
+    fn a_number_of_another_call_is_not_counted() {
+        let mut tally = Tally::new();
+        let wrong = [
+            (Call::FlashCheck, 25),
+            (Call::FlashErase, 6),
+            (Call::FlashRead, 9),
+            (Call::FlashSave, 7),
+            (Call::CardCheck, 5),
+            (Call::CardList, 32),
+        ];
+        for (call, number) in wrong {
+            assert!(!tally.count(call, number), "{} {number}", call.name());
+        }
+        assert!(tally.table().contains("calls 0,"));
     }
 }
