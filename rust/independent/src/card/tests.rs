@@ -264,7 +264,10 @@ fn fields_of_an_entry() {
         put(&mut card, entry_at(3) + at, value);
         assert_eq!(check(&card), at_entry(27, 3));
     }
-    // A game's header offset isn't tested.
+}
+
+#[test]
+fn offset_of_a_game_is_not_tested() {
     let mut card = sample();
     put(&mut card, entry_at(16) + 0x1A, 0xFFFF);
     assert_eq!(check(&card), Ok(0));
@@ -480,7 +483,20 @@ mod model {
             || (card[at] == DATA && word(card, at + 0x1A) >= size)
     }
 
-    pub fn check(card: &[u8]) -> Result<u64, (u32, Place)> {
+    type Verdict<T> = Result<T, (u32, Place)>;
+
+    pub fn check(card: &[u8]) -> Verdict<u64> {
+        root(card)?;
+        table(card)?;
+        let used: Vec<usize> = (0..208).filter(|&e| card[entry_at(e)] != 0).collect();
+        first(26, &used, |e| field_error(card, e))?;
+        first(27, &used, |e| chain(card, e).is_none())?;
+        files(card, &used)?;
+        Ok(orphans(card, &used))
+    }
+
+    /// 20 to 22.
+    fn root(card: &[u8]) -> Verdict<()> {
         if card.len() != 131_072 {
             return Err((20, Whole));
         }
@@ -492,6 +508,11 @@ mod model {
         if fields.iter().any(|&(at, v)| word(card, root + at) != v) {
             return Err((22, Block(255)));
         }
+        Ok(())
+    }
+
+    /// 23 to 25.
+    fn table(card: &[u8]) -> Verdict<()> {
         for b in 241..256u16 {
             let right = if [241, 254, 255].contains(&b) {
                 LAST
@@ -512,30 +533,39 @@ mod model {
                 return Err((25, Block(b.into())));
             }
         }
-        let used: Vec<usize> = (0..208).filter(|&e| card[entry_at(e)] != 0).collect();
-        let first = |number, bad: &dyn Fn(usize) -> bool| match used.iter().find(|&&e| bad(e)) {
-            Some(&e) => Err((number, Entry(e as u64))),
-            None => Ok(()),
-        };
+        Ok(())
+    }
+
+    /// 28 to 30, where every chain is sound.
+    fn files(card: &[u8], used: &[usize]) -> Verdict<()> {
         let earlier = |e: usize| used.iter().copied().filter(move |&f| f < e);
-        first(26, &|e| field_error(card, e))?;
-        first(27, &|e| chain(card, e).is_none())?;
         let blocks = |e| chain(card, e).unwrap();
-        first(28, &|e| {
+        first(28, used, |e| {
             earlier(e).any(|f| blocks(f).iter().any(|b| blocks(e).contains(b)))
         })?;
         let name = |e| &card[entry_at(e) + 4..entry_at(e) + 16];
-        first(29, &|e| earlier(e).any(|f| name(f) == name(e)))?;
+        first(29, used, |e| earlier(e).any(|f| name(f) == name(e)))?;
         let game = |e| card[entry_at(e)] == GAME;
-        first(30, &|e| {
+        first(30, used, |e| {
             let rising = (0..).zip(blocks(e)).all(|(i, b)| i == b);
             game(e) && (earlier(e).any(game) || !rising || blocks(e).len() > 128)
-        })?;
-        let in_files: Vec<u16> = used.iter().flat_map(|&e| blocks(e)).collect();
+        })
+    }
+
+    fn orphans(card: &[u8], used: &[usize]) -> u64 {
+        let in_files: Vec<u16> = used.iter().flat_map(|&e| chain(card, e).unwrap()).collect();
         let orphans = (0..200)
             .filter(|&b| ![FREE, DAMAGED].contains(&link(card, b)))
             .filter(|b| !in_files.contains(b));
-        Ok(orphans.count() as u64)
+        orphans.count() as u64
+    }
+
+    /// Refuses the lowest of the entries that is bad.
+    fn first(number: u32, used: &[usize], bad: impl Fn(usize) -> bool) -> Verdict<()> {
+        match used.iter().find(|&&e| bad(e)) {
+            Some(&e) => Err((number, Entry(e as u64))),
+            None => Ok(()),
+        }
     }
 }
 
