@@ -26,7 +26,8 @@ decimal n = digitsIn n n
 unfoldable pub line : List ℕ → ℕ → List ℕ
 line label n = label ++ (32 ∷ (decimal n ++ 10 ∷ []))
 
--- ---- words of the output
+-- ---- words of the output: refused, partition, version, user, used, live, block, and the line `end`. Examples.antt has them in the
+-- paper's own report.
 
 abbrev pub refusedWord : List ℕ
 refusedWord = 114 ∷ 101 ∷ 102 ∷ 117 ∷ 115 ∷ 101 ∷ 100 ∷ []
@@ -62,7 +63,7 @@ partitionFor size = cond (eqb size 16384) 2 (cond (eqb size 32768) 3 4)
 unfoldable pub blockLines : List ℕ → List ℕ
 blockLines image = concat (map (line blockWord) (keep (λ n. isSome (contents image n)) (logicalNumbers (length image))))
 
--- The lines before them: the partition, and what a report gives.
+-- The lines before them: the partition, and what a report gives, which is version, capacity, used and live.
 unfoldable pub headLines : ℕ → ℕ → ℕ → ℕ → ℕ → List ℕ
 headLines partition edition blocks allocated found =
     line partitionWord partition
