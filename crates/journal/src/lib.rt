@@ -1,3 +1,59 @@
-// Writing a partition in place: one block appended, and blocks moved down.
-pub mod append;
-pub mod moving;
+// One block written, and its bitmap bit cleared.
+use bitmap::is_allocated;
+use measures::BLOCK;
+use measures::Measures;
+use words::put_word;
+ghost use mathlib.Core.Path.{_≡_};
+ghost use Prim.Native.Nat.{_≤_, _<_};
+ghost use lib.ListN.{length};
+ghost use Rattle.flash_model.specs.Measures.{capacity};
+ghost use Rattle.flash_model.specs.UserBlock.{newBlock};
+ghost use Rattle.flash_model.specs.Update as model;
+ghost use Rattle.bitmap.specs.Over.{Over};
+
+// Number, payload and checksum, over all 64 bytes of the part.
+fn write_block(block: &mut [u8], number: usize, page: &[u8])
+    requires { ⌜ (length (now block) ≡ 64) × (length (now page) ≡ 60) × (number < 65536) ⌝ }
+    ensures { λ _. ⌜ now (block .exit) ≡ newBlock number (now (page .entry)) ⌝ }
+{
+    put_word(&mut block[0..2], number);
+    bytes::copy(page, &mut block[2..62]);
+    let sum = checksum::checksum(&block[0..62]) as usize;
+    put_word(&mut block[62..64], sum);
+}
+
+// Block k of the image gets number, payload and checksum.
+pub fn put_block(image: &mut [u8], m: Measures, k: usize, number: usize, page: &[u8])
+    requires { ⌜ Over (now image) (m .size) ⌝ }
+    requires { ⌜ (k ≤ capacity (m .size)) × (length (now page) ≡ 60) × (number < 65536) ⌝ }
+    ensures { λ _. ⌜ now (image .exit) ≡ model.withBlock (now (image .entry)) k (newBlock number (now (page .entry))) ⌝ }
+{
+    let at = m.start(k);
+    let end = at + BLOCK;
+    write_block(&mut image[at..end], number, page);
+}
+
+// User block k's bitmap bit is cleared, if it is 1.
+pub fn clear_bit(image: &mut [u8], m: Measures, k: usize)
+    requires { ⌜ Over (now image) (m .size) ⌝ }
+    requires { ⌜ (1 ≤ k) × (k ≤ capacity (m .size)) ⌝ }
+    ensures { λ _. ⌜ now (image .exit) ≡ model.bitCleared (now (image .entry)) k ⌝ }
+{
+    if is_allocated(&image[..], m, k) {
+        return;
+    }
+    let first = m.first_bitmap();
+    let at = m.start(first) + (k - 1) / 8;
+    let place = 7 - (k - 1) % 8;
+    image[at] = image[at] - (1u8 << place);
+}
+
+// The free block k gets number, payload and checksum, and its bit is cleared.
+pub fn append(image: &mut [u8], m: Measures, k: usize, number: usize, page: &[u8])
+    requires { ⌜ Over (now image) (m .size) ⌝ }
+    requires { ⌜ (1 ≤ k) × (k ≤ capacity (m .size)) × (length (now page) ≡ 60) × (number < 65536) ⌝ }
+    ensures { λ _. ⌜ now (image .exit) ≡ model.appended (now (image .entry)) k (newBlock number (now (page .entry))) ⌝ }
+{
+    put_block(image, m, k, number, page);
+    clear_bit(image, m, k);
+}

@@ -1,14 +1,14 @@
 -- Laws of runs of bytes and two-byte numbers. Assumes nothing.
 use Prim.Native.Nat.{ℕ, suc, _+_, _/_, _%_, _≤_, _<_}
 use mathlib.Core.Path.{_≡_, refl, sym, ap, _∙_}
-use mathlib.Core.Bool.{Bool, true, false, false≢true, and-false}
+use mathlib.Core.Bool.{Bool, true, false, _&&_, false≢true, and-false}
 use mathlib.Core.List.{List, [], _∷_, _++_}
 use native.Mathlib.Omega.{arith}
 use lib.Dec.{eqb}
 use native.Mathlib.Numerals.{add-one}
 use lib.ListN.{length, getD, drop, set, drop-of-length-le}
 use lib.Seq.{getD-at, getD-append-add, drop-cons}
-use borrow.Author.Tests.{eqb-true, eq-eqb, ne-eqb}
+use borrow.Author.Tests.{eqb-true, eq-eqb}
 use Rattle.words.specs.Words.{word, wordBytes, sameBytes}
 use Rattle.words.proofs.Bools.{and-true-left, and-true-right}
 
@@ -54,15 +54,11 @@ same-lengths (x ∷ a) (y ∷ b) h = rw (same-lengths a b (λ e. h (ap suc e)), 
 
 -- at index i of two runs of one length
 module _ (a b : List ℕ) (i : ℕ) (e : length a ≡ length b) where
-  pub same-differs : i < length a → (getD a i 0 ≡ getD b i 0 → ⊥) → sameBytes (drop i a) (drop i b) ≡ false
-  same-differs ha n =
+  pub same-next : i < length a
+      → sameBytes (drop i a) (drop i b) ≡ (eqb (getD a i 0) (getD b i 0) && sameBytes (drop (i + 1) a) (drop (i + 1) b))
+  same-next ha =
       let hb : i < length b = omega arith in
-      rw (drop-cons a i 0, drop-cons b i 0, ne-eqb _ _ n)
-
-  pub same-next : i < length a → getD a i 0 ≡ getD b i 0 → sameBytes (drop i a) (drop i b) ≡ sameBytes (drop (i + 1) a) (drop (i + 1) b)
-  same-next ha q =
-      let hb : i < length b = omega arith in
-      rw (drop-cons a i 0, drop-cons b i 0, eq-eqb _ _ q, add-one i)
+      rw (drop-cons a i 0, drop-cons b i 0, add-one i)
 
   pub same-end : length a ≤ i → sameBytes (drop i a) (drop i b) ≡ true
   same-end ha =

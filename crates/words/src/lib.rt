@@ -28,21 +28,21 @@ pub fn put_word(part: &mut [u8], n: usize)
     part[1] = (n / 256 % 256) as u8;
 }
 
-// Whether two runs have the same length and the same bytes.
+// Whether two runs have the same length and the same bytes. The loop has no way out, so that it is compiled to steps of several
+// bytes.
 pub fn same(a: &[u8], b: &[u8]) -> bool
     ensures { λ r. ⌜ r ≡ bytes.sameBytes (now (a .entry)) (now (b .entry)) ⌝ }
 {
     if a.len() != b.len() {
         return false;
     }
+    let mut alike = true;
     let mut i = 0;
     while i < a.len() {
-        if a[i] != b[i] {
-            return false;
-        }
+        alike = alike & (a[i] == b[i]);
         i += 1;
     }
-    true
+    alike
 }
 
 // Makes every byte of a part the same.
