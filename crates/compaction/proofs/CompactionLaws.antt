@@ -14,7 +14,7 @@ use Rattle.flash_model.proofs.RoomLaws.{holders-room, others-fit}
 use Rattle.partition.specs.Usable.{Usable}
 use Rattle.listing.specs.Listing.{places}
 use Rattle.partition.proofs.UsableLaws.{usable-measured}
-use Rattle.journal.specs.Moving.{AllMoved}
+use Rattle.moving.specs.Moving.{AllMoved}
 use Rattle.compaction.proofs.KeptLaws.{named-holders, named-others}
 use Rattle.compaction.proofs.RewriteLaws.{finished, front-more}
 

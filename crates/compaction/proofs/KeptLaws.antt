@@ -23,7 +23,7 @@ use Rattle.partition.specs.Usable.{Usable}
 use Rattle.listing.specs.Listing.{entryOf, places}
 use Rattle.partition.proofs.UsableLaws.{usable-measured, count-most, holder-none}
 use Rattle.listing.proofs.PlaceLaws.{places-length}
-use Rattle.journal.specs.Moving.{namedIn, namedBlocks}
+use Rattle.moving.specs.Moving.{namedIn, namedBlocks}
 
 -- ---- tests on a range
 

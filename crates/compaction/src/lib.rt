@@ -1,10 +1,10 @@
 // The compaction, in place: document 01's long way.
-use journal::append::put_block;
-use journal::moving::finish;
-use journal::moving::keep_blocks;
+use journal::put_block;
 use listing::list_places;
 use measures::Measures;
 use measures::NUMBERS;
+use moving::finish;
+use moving::keep_blocks;
 ghost use mathlib.Core.Path.{_≡_};
 ghost use mathlib.Core.List.{[], _∷_, _++_};
 ghost use Prim.Native.Nat.{_≤_};

@@ -2,7 +2,6 @@
 use crate::Counts;
 use crate::LiveNumber;
 use bitmap::Found;
-use journal::append;
 use listing::Next;
 use measures::Measures;
 use measures::NUMBERS;
@@ -124,7 +123,7 @@ fn store(image: &mut [u8], m: Measures, used: usize, number: usize, page: &[u8])
     ensures { λ _. ⌜ now (image .exit) ≡ saved (now (image .entry)) number (now (page .entry)) ⌝ }
 {
     if can_append(&image[..], m, used) {
-        append::append(image, m, used + 1, number, page);
+        journal::append(image, m, used + 1, number, page);
         return;
     }
     compaction::compact(image, m, used, number, page);

@@ -15,7 +15,7 @@ pub record Measured (size : ℕ) : Type 0 where
   pub first-bitmap : firstBitmap size ≡ suc (capacity size)
   pub top-number : suc (topNumber size) ≡ capacity size
   pub whole : size ≡ (suc (capacity size) + bitmapBlocks size) * 64
-  pub bits-enough : capacity size ≤ bitmapBlocks size * 512
+  pub bits-enough : capacity size < bitmapBlocks size * 512
   pub two-bytes : capacity size ≤ 65535
   pub bounded : size ≤ 1048576
 

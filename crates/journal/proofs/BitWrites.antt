@@ -1,5 +1,5 @@
 -- An image with bitmap bits cleared, as its bytes are stored. Assumes nothing.
-use Prim.Native.Nat.{ℕ, suc, _+_, _*_, _-_, _/_, _%_, _^_, _≤_, _<_}
+use Prim.Native.Nat.{ℕ, _+_, _*_, _-_, _/_, _%_, _^_, _≤_, _<_}
 use mathlib.Core.Path.{_≡_, sym, ap, _∙_}
 use mathlib.Core.Bool.{true, false}
 use mathlib.Core.List.{List, _++_}
@@ -8,15 +8,14 @@ use native.Mathlib.Nat.{mod-eq-of-lt, one-mul}
 use lib.ListN.{length, getD, take, drop, set, take-append-drop}
 use lib.Seq.{set-getD, take-set-le, drop-set-add}
 use Rattle.flash_model.specs.Measures.{firstBitmap, capacity}
-use Rattle.flash_model.specs.Bitmap.{bitByte, bitPlace, bitWeight, bitOf, cleared, firstCleared}
+use Rattle.flash_model.specs.Bitmap.{bitByte, bitPlace, bitWeight, bitOf, cleared}
 use Rattle.flash_model.specs.Partition.{bitmapOf, allocated}
-use Rattle.flash_model.specs.Update.{beforeBitmap, bitCleared, bitsCleared, withBlock, appended}
-use Rattle.flash_model.proofs.MeasureLaws.{Measured}
+use Rattle.flash_model.specs.Update.{beforeBitmap, bitCleared, withBlock, appended}
 use Rattle.flash_model.proofs.BitLaws.{bit-le}
-use Rattle.flash_model.proofs.BitmapLaws.{free-bit, first-length}
-use Rattle.flash_model.proofs.ImageLaws.{bitmap-byte, made-length, made-bitmap, made-front}
+use Rattle.flash_model.proofs.BitmapLaws.{free-bit}
+use Rattle.flash_model.proofs.ImageLaws.{bitmap-byte}
 use Rattle.bitmap.specs.Over.{Over}
-use Rattle.bitmap.proofs.BitReads.{over-measured, byte-inside}
+use Rattle.bitmap.proofs.BitReads.{byte-inside}
 
 -- a store behind a front
 set-behind : (l : List ℕ) (n i v : ℕ) → take n l ++ set (drop n l) i v ≡ set l (n + i) v
@@ -66,33 +65,3 @@ module _ {image : List ℕ} {size first start : ℕ} (k : ℕ) (o : Over image s
     now-clear =
         rw (weight-is, free, byte-is)
         (sym (unfold bitmapOf in set-behind image (firstBitmap (length image) * 64) (bitByte k) (getD image place 0 - weight) ∙ rw place-is))
-
--- ---- one bit after the other
-
-module _ {image : List ℕ} {size : ℕ} (o : Over image size) where
-  measured : Measured (length image)
-  measured = rw (o .has-size) (over-measured image size o)
-
-  module _ (n : ℕ) where
-    abbrev bits : List ℕ
-    bits = firstCleared (bitmapOf image) n
-
-    same-front : beforeBitmap (beforeBitmap image ++ bits) ≡ beforeBitmap image
-    unfolding beforeBitmap
-    same-front =
-        ap (λ (l : ℕ). take (firstBitmap l * 64) (beforeBitmap image ++ bits)) (made-length image bits measured (first-length (bitmapOf image) n))
-        ∙ made-front image bits measured (first-length (bitmapOf image) n)
-
-    bits-next : bitCleared (bitsCleared image n) (suc n) ≡ bitsCleared image (suc n)
-    unfolding bitCleared bitsCleared firstCleared
-    bits-next = rw (same-front, made-bitmap image bits measured (first-length (bitmapOf image) n))
-
-  pub bits-step : {now next : List ℕ} (k : ℕ) → 1 ≤ k → now ≡ bitsCleared image (k - 1) → next ≡ bitCleared now k → next ≡ bitsCleared image (k + 1 - 1)
-  bits-step k lo e f =
-      let g : k ≡ suc (k - 1) = omega arith in
-      let h : suc (k - 1) ≡ k + 1 - 1 = omega arith in
-      f ∙ ap (λ (l : List ℕ). bitCleared l k) e ∙ ap (bitCleared (bitsCleared image (k - 1))) g ∙ bits-next (k - 1) ∙ ap (bitsCleared image) h
-
-pub bits-none : (image : List ℕ) → bitsCleared image 0 ≡ image
-unfolding bitsCleared firstCleared beforeBitmap bitmapOf
-bits-none image = take-append-drop (firstBitmap (length image) * 64) image

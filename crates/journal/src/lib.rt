@@ -1,4 +1,4 @@
-// One block written, and its bitmap bit cleared.
+// The journal that a partition is: one block written behind the used ones, and its bitmap bit cleared.
 use bitmap::is_allocated;
 use measures::BLOCK;
 use measures::Measures;
@@ -34,7 +34,7 @@ pub fn put_block(image: &mut [u8], m: Measures, k: usize, number: usize, page: &
 }
 
 // User block k's bitmap bit is cleared, if it is 1.
-pub fn clear_bit(image: &mut [u8], m: Measures, k: usize)
+fn clear_bit(image: &mut [u8], m: Measures, k: usize)
     requires { ⌜ Over (now image) (m .size) ⌝ }
     requires { ⌜ (1 ≤ k) × (k ≤ capacity (m .size)) ⌝ }
     ensures { λ _. ⌜ now (image .exit) ≡ model.bitCleared (now (image .entry)) k ⌝ }

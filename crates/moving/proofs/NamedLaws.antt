@@ -18,8 +18,8 @@ use Rattle.flash_model.specs.Update.{withBlock}
 use Rattle.flash_model.proofs.MeasureLaws.{legal-le}
 use Rattle.bitmap.specs.Over.{Over}
 use Rattle.bitmap.proofs.BitReads.{over-measured}
-use Rattle.journal.specs.Moving.{namedIn, namedBlocks, Moved, AllMoved}
+use Rattle.moving.specs.Moving.{namedIn, namedBlocks, Moved, AllMoved}
 use Rattle.journal.proofs.OverLaws.{within}
 
 -- ---- one block
 

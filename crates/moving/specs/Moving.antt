@@ -5,7 +5,7 @@ use mathlib.Core.Path.{_≡_}
 use mathlib.Core.Bool.{Bool, cond, _&&_}
 use mathlib.Core.List.{List, _++_, map}
 use lib.Dec.{eqb}
-use lib.ListN.{length, getD, take}
+use lib.ListN.{length, getD, take, replicate}
 use Rattle.words.specs.Lists.{keep, concat, numbersFrom}
 use Rattle.flash_model.specs.Measures.{legalNumber}
 use Rattle.flash_model.specs.UserBlock.{number}
@@ -30,3 +30,7 @@ pub record AllMoved (area : List ℕ) (size count : ℕ) (image image′ : List 
   pub front-is : take (next * 64) image′ ≡ take 64 image ++ concat (namedBlocks area size image 1 count)
   pub next-is : next ≡ suc (length (namedBlocks area size image 1 count))
   pub same-length : length image′ ≡ length image
+
+-- All bytes are FF.
+abbrev pub IsBlank : List ℕ → Type 0
+IsBlank bytes = bytes ≡ replicate (length bytes) 255

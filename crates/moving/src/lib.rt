@@ -1,18 +1,18 @@
 // The used blocks that an area of places names, moved down to 1, 2, 3 and on; then FF, and the bits of what stands there.
-use crate::append::clear_bit;
 use measures::BLOCK;
 use measures::Measures;
 use words::fill;
 use words::word;
 ghost use mathlib.Core.Path.{_≡_};
 ghost use mathlib.Core.List.{_++_};
-ghost use Prim.Native.Nat.{_+_, _-_, _*_, _≤_};
+ghost use Prim.Native.Nat.{_+_, _-_, _*_, _≤_, _<_};
 ghost use lib.ListN.{length, take, replicate};
 ghost use Rattle.flash_model.specs.Measures.{capacity};
-ghost use Rattle.flash_model.specs.Partition.{blockAt};
+ghost use Rattle.flash_model.specs.Bitmap.{firstCleared};
+ghost use Rattle.flash_model.specs.Partition.{blockAt, bitmapOf};
 ghost use Rattle.flash_model.specs.Update as model;
 ghost use Rattle.bitmap.specs.Over.{Over};
-ghost use Rattle.journal.specs.Moving.{Moved, AllMoved};
+ghost use Rattle.moving.specs.Moving.{Moved, AllMoved, IsBlank};
 
 // Block `from` copied over block `to`, which is not above it.
 fn move_block(image: &mut [u8], from: usize, to: usize)
@@ -61,17 +61,25 @@ pub fn keep_blocks(image: &mut [u8], m: Measures, used: usize, area: &[u16]) -> 
     to
 }
 
-// The bits of the blocks 1 to n are cleared.
+// Clears the first n bits of a bitmap whose bytes are all FF: whole bytes, then the high bits of one more.
+fn clear_first(bits: &mut [u8], n: usize)
+    requires { ⌜ (n < 8 * length (now bits)) × IsBlank (now bits) ⌝ }
+    ensures { λ _. ⌜ now (bits .exit) ≡ firstCleared (now (bits .entry)) n ⌝ }
+{
+    let whole = n / 8;
+    fill(&mut bits[0..whole], 0);
+    bits[whole] = 255u8 >> (n % 8);
+}
+
+// The bits of the blocks 1 to n are cleared, where the bitmap is FF.
 fn clear_bits(image: &mut [u8], m: Measures, n: usize)
     requires { ⌜ Over (now image) (m .size) ⌝ }
-    requires { ⌜ n ≤ capacity (m .size) ⌝ }
+    requires { ⌜ (n ≤ capacity (m .size)) × IsBlank (bitmapOf (now image)) ⌝ }
     ensures { λ _. ⌜ now (image .exit) ≡ model.bitsCleared (now (image .entry)) n ⌝ }
 {
-    let mut k: usize = 1;
-    while k <= n {
-        clear_bit(image, m, k);
-        k += 1;
-    }
+    let first = m.first_bitmap();
+    let at = m.start(first);
+    clear_first(&mut image[at..], n);
 }
 
 // FF from block `next` to the end, but for the bits of the blocks below it.

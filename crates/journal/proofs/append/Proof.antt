@@ -1,9 +1,9 @@
--- `append::append` meets its contract. Assumes nothing.
+-- `journal::append` meets its contract. Assumes nothing.
 use mathlib.Core.Path.{_∙_}
 use Rattle.journal.proofs.BitWrites.{then-cleared}
 use borrow.Author.Needs.{needs}
-use Rattle.journal.proofs.append.append.Statement.{statement}
-use Rattle.journal.proofs.append.append.Tie as tie
+use Rattle.journal.proofs.append.Statement.{statement}
+use Rattle.journal.proofs.append.Tie as tie
 
 put-block-requires : tie.Need-put-block-requires
 put-block-requires c κs = search needs

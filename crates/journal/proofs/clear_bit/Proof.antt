@@ -1,10 +1,10 @@
--- `append::clear_bit` meets its contract. Assumes nothing.
+-- `journal::clear_bit` meets its contract. Assumes nothing.
 use mathlib.Core.Path.{sym, _∙_}
 use native.Mathlib.Omega.{arith}
 use Rattle.journal.proofs.BitWrites.{already-clear, place-inside, bit-fits, now-clear}
 use borrow.Author.Needs.{needs}
-use Rattle.journal.proofs.append.clear_bit.Statement.{statement}
-use Rattle.journal.proofs.append.clear_bit.Tie as tie
+use Rattle.journal.proofs.clear_bit.Statement.{statement}
+use Rattle.journal.proofs.clear_bit.Tie as tie
 
 is-allocated-requires : tie.Need-is-allocated-requires
 is-allocated-requires c κs = search needs

@@ -1,11 +1,11 @@
--- `append::put_block` meets its contract. Assumes nothing.
+-- `journal::put_block` meets its contract. Assumes nothing.
 use mathlib.Core.Path.{ap, _∙_}
 use Rattle.flash_model.specs.Update.{withBlock}
 use Rattle.journal.proofs.OverLaws.{within}
 use Rattle.journal.proofs.PartLaws.{put-block}
 use borrow.Author.Needs.{needs}
-use Rattle.journal.proofs.append.put_block.Statement.{statement}
-use Rattle.journal.proofs.append.put_block.Tie as tie
+use Rattle.journal.proofs.put_block.Statement.{statement}
+use Rattle.journal.proofs.put_block.Tie as tie
 
 start-requires : tie.Need-start-requires
 start-requires c κs =

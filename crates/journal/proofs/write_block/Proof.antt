@@ -1,8 +1,8 @@
--- `append::write_block` meets its contract. Assumes nothing.
+-- `journal::write_block` meets its contract. Assumes nothing.
 use Rattle.journal.proofs.PartLaws.{written}
 use borrow.Author.Needs.{needs}
-use Rattle.journal.proofs.append.write_block.Statement.{statement}
-use Rattle.journal.proofs.append.write_block.Tie as tie
+use Rattle.journal.proofs.write_block.Statement.{statement}
+use Rattle.journal.proofs.write_block.Tie as tie
 
 sub-put-word : tie.Need-sub-put-word
 sub-put-word c = search needs

@@ -4,11 +4,12 @@ use mathlib.Core.Path.{ap, _∙_}
 use mathlib.Core.List.{List}
 use native.Mathlib.Omega.{arith}
 use Rattle.flash_model.specs.Update.{bitsCleared}
-use Rattle.journal.proofs.PartLaws.{filled}
+use Rattle.moving.proofs.MoveLaws.{filled}
+use Rattle.moving.proofs.BitLaws.{blank-bitmap}
 use Rattle.journal.proofs.OverLaws.{within}
 use borrow.Author.Needs.{needs}
-use Rattle.journal.proofs.moving.finish.Statement.{statement}
-use Rattle.journal.proofs.moving.finish.Tie as tie
+use Rattle.moving.proofs.finish.Statement.{statement}
+use Rattle.moving.proofs.finish.Tie as tie
 
 start-requires : tie.Need-start-requires
 start-requires c κs =
@@ -35,7 +36,11 @@ sub-clear-bits : tie.Need-sub-clear-bits
 sub-clear-bits c = search needs
 
 clear-bits-requires : tie.Need-clear-bits-requires
-clear-bits-requires c κs = (record { has-size = search needs; is-legal = search needs }, search needs)
+clear-bits-requires c κs =
+    let a = c .before .before .before .before .before .before .before in
+    let w = within (a .args .next - 1) (a .pre .0) (omega arith) in
+    let same = filled (a .args .image .now) (a .args .m .size) (a .args .next) _ (a .pre .0 .has-size) (omega arith) (c .before .before .before .before .before .start .ensures) (c .before .before .before .fill .ensures) in
+    (record { has-size = search needs; is-legal = search needs }, (search needs, blank-bitmap (a .args .image .now) (a .args .m .size) (a .args .next) (search needs) (omega arith) same))
 
 same-length : tie.Need-same-length
 same-length c = search needs

@@ -1,11 +1,11 @@
 -- `moving::keep_block` meets its contract. Assumes nothing.
 use native.Mathlib.Omega.{arith}
 use lib.ListN.{length-take, length-drop}
 use Rattle.journal.proofs.OverLaws.{within}
-use Rattle.journal.proofs.NamedLaws.{number-inside, illegal-stays, other-stays, named-moves}
+use Rattle.moving.proofs.NamedLaws.{number-inside, illegal-stays, other-stays, named-moves}
 use borrow.Author.Needs.{needs}
-use Rattle.journal.proofs.moving.keep_block.Statement.{statement}
-use Rattle.journal.proofs.moving.keep_block.Tie as tie
+use Rattle.moving.proofs.keep_block.Statement.{statement}
+use Rattle.moving.proofs.keep_block.Tie as tie
 
 start-requires : tie.Need-start-requires
 start-requires c κs =

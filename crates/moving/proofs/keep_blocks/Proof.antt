@@ -3,10 +3,10 @@
 use Prim.Native.Nat.{_+_, _-_, _≤_}
 use mathlib.Core.Path.{_∙_}
 use native.Mathlib.Omega.{arith}
 use Rattle.journal.proofs.OverLaws.{within}
-use Rattle.journal.proofs.NamedLaws.{Conserved, conserved-start, conserved-next, all-moved}
-use Rattle.journal.proofs.moving.keep_blocks.Statement.{statement}
-use Rattle.journal.proofs.moving.keep_blocks.Tie as tie
+use Rattle.moving.proofs.NamedLaws.{Conserved, conserved-start, conserved-next, all-moved}
+use Rattle.moving.proofs.keep_blocks.Statement.{statement}
+use Rattle.moving.proofs.keep_blocks.Tie as tie
 
 abbrev Inv-loop : tie.InvT-loop
 Inv-loop image₀ m used area to₀ k₀ image to k = (k ≤ used + 1) × Conserved area (m .size) used k₀ to₀ image₀ k to image

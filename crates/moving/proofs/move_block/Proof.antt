@@ -8,10 +8,10 @@ use lib.ListN.{length, drop, length-set}
 use lib.Seq.{paste, paste-zero}
 use Rattle.flash_model.specs.Partition.{blockAt}
 use Rattle.flash_model.specs.Update.{withBlock}
-use Rattle.journal.proofs.PartLaws.{move-step}
+use Rattle.moving.proofs.MoveLaws.{move-step}
 use borrow.Author.Needs.{needs}
-use Rattle.journal.proofs.moving.move_block.Statement.{statement}
-use Rattle.journal.proofs.moving.move_block.Tie as tie
+use Rattle.moving.proofs.move_block.Statement.{statement}
+use Rattle.moving.proofs.move_block.Tie as tie
 
 abbrev Inv-loop : tie.InvT-loop
 Inv-loop image₀ from to a b i₀ image i = (i ≤ 64) × (length image ≡ length image₀) × (image ≡ paste image₀ b (drop a image₀) i)
