@@ -13,6 +13,8 @@ use Rattle.words.proofs.JoinLaws.{concat-snoc}
 use Rattle.flash_model.specs.Measures.{sizes, legalSize, blocks, bitmapBlocks, firstBitmap, capacity}
 use Rattle.flash_model.proofs.MeasureLaws.{in-table}
 use Rattle.flash_model.specs.Update.{bitsCleared, withBlock, rewritten, compacted}
+use Rattle.listing.specs.Listing.{Blank}
+use Rattle.listing.proofs.PlaceLaws.{blank-new}
 
 -- the front is the header block and the kept blocks, all else FF, and the bits of the kept blocks are cleared
 pub finished : (image front : List ℕ) (kept : List (List ℕ)) (size next : ℕ) → length image ≡ size → front ≡ take 64 image ++ concat kept → next ≡ suc (length kept)
@@ -38,3 +40,7 @@ front-more image moved new kept next h l e =
 pub numbers-enough : (size : ℕ) → legalSize size ≡ true → capacity size ≤ 1021
 unfolding legalSize sizes capacity firstBitmap blocks bitmapBlocks
 numbers-enough size h = leb-true (capacity size) 1021 (in-table (λ n. leb (capacity n) 1021) sizes refl size h)
+
+-- an area as it is made
+pub new-area : Blank (replicate 1021 0)
+new-area = blank-new 1021

@@ -6,7 +6,7 @@ use mathlib.Core.List.{List, _++_}
 use mathlib.Core.Option.{Option, none, some, Option·map}
 use native.Mathlib.Omega.{arith}
 use lib.ListN.{length, getD, take, drop, length-take, length-drop}
-use lib.Seq.{take-at, take-take}
+use lib.Seq.{take-take}
 use borrow.Author.Tests.{ne-eqb}
 use Rattle.words.proofs.ListLaws.{take-drop}
 use Rattle.words.proofs.PartsLaws.{copied-over}
@@ -17,10 +17,9 @@ use Rattle.flash_model.proofs.HolderLaws.{holder-held}
 use Rattle.bitmap.specs.Over.{asFound}
 use Rattle.bitmap.specs.declared.Found.the-variants.{At, Nothing}
 use Rattle.partition.specs.Usable.{Usable}
-use Rattle.listing.specs.Listing.{places, nonzero, asNext}
+use Rattle.listing.specs.Listing.{asNext}
 use Rattle.listing.specs.declared.Next.the-variants as nexts
 use Rattle.partition.proofs.OpenLaws.{found-at, found-nothing}
-use Rattle.listing.proofs.PlaceLaws.{places-length, live-entries}
 use Rattle.flash.specs.Answers.{countsOf, nextOf, readRest, readBuffer}
 use Rattle.flash.specs.declared.Counts.{Counts}
 use Rattle.flash.specs.declared.LiveNumber.the-variants as liveNumbers
@@ -37,14 +36,12 @@ next-missing (some m) e = let z : _≡_ {A = ℕ} 0 1 = cc in absurd (omega arit
 
 -- ---- the counts
 
-pub counts-are : (image : List ℕ) (size count : ℕ) → Usable image size count → (area rest : List ℕ) → area ≡ places image ++ rest
-    → (cap n : ℕ) → cap ≡ capacity size → n ≡ nonzero (take cap area)
+pub counts-are : (image : List ℕ) (size count : ℕ) → Usable image size count → (cap n : ℕ) → cap ≡ capacity size → n ≡ live image
     → _≡_ {A = Counts} (record { version = getD image 17 0; capacity = cap; used = count; live = n }) (countsOf image)
 unfolding countsOf version
-counts-are image size count u area rest e cap n c l =
+counts-are image size count u cap n c l =
     let s : cap ≡ capacity (length image) = c ∙ ap capacity (sym (u .has-size)) in
-    let f : n ≡ live image = l ∙ rw (e, s, take-at (places image) rest (capacity (length image)) (places-length image)) (live-entries image) in
-    rw (s, f, u .used-is)
+    rw (s, l, u .used-is)
 
 -- ---- a number's contents
 

@@ -25,13 +25,12 @@ pub(crate) fn count_blocks(image: &[u8], m: Measures, used: usize) -> Counts
     ensures { λ r. ⌜ r ≡ countsOf (now (image .entry)) ⌝ }
 {
     let mut area = [0u16; NUMBERS];
-    listing::list_places(image, m, used, &mut area);
-    let capacity = m.capacity();
+    let live = listing::list_places(image, m, used, &mut area);
     Counts {
         version: image[17],
-        capacity,
+        capacity: m.capacity(),
         used,
-        live: listing::count_entries(&area, capacity),
+        live,
     }
 }
 

@@ -90,10 +90,9 @@ module _ (image : List ℕ) (start end k best : ℕ) (b : Best image start end k
       go true a false c v d = kept (λ n h l. rw (ne-eqb (number (blockAt image k)) n (λ z. omega (arith, z, l, ltb-false (number (blockAt image k)) best c))))
       go false a u c v d = kept (λ n h l. rw (ne-eqb (number (blockAt image k)) n (λ z. omega (arith, z, h, leb-false start (number (blockAt image k)) a))))
 
--- ---- when all used blocks are passed
+-- ---- what the blocks passed say of contents
 
-module _ (image : List ℕ) (size count : ℕ) (u : Usable image size count) (start end k best : ℕ) (e : end ≡ capacity size) (f : k ≡ count + 1)
-    (b : Best image start end k best) where
+module _ (image : List ℕ) (size count : ℕ) (u : Usable image size count) (end : ℕ) (e : end ≡ capacity size) where
   legal : (n : ℕ) → n < end → legalNumber size n ≡ true
   legal n h = legal-below size n (usable-measured image size count u) ∙ lt-ltb n (capacity size) (omega (arith, h, e))
 
@@ -103,9 +102,9 @@ module _ (image : List ℕ) (size count : ℕ) (u : Usable image size count) (st
   no-contents n h none-match =
       ap (Option·map (λ j. payload (blockAt image j))) (holder-some image size count u n (legal n h) ∙ highest-nothing (λ j. matches n (blockAt image j)) count none-match)
 
-  has-contents : (n : ℕ) → n < end → Seen image k n → contents image n ≢ none
+  has-contents : (k n : ℕ) → k ≤ count + 1 → n < end → Seen image k n → contents image n ≢ none
   unfolding contents
-  has-contents n h s e = go (highest (λ j. matches n (blockAt image j)) count) refl
+  has-contents k n f h s e = go (highest (λ j. matches n (blockAt image j)) count) refl
     where
       go : (o : Option ℕ) → highest (λ j. matches n (blockAt image j)) count ≡ o → ⊥
       go none q = true≢false (sym (s .here) ∙ highest-none (λ j. matches n (blockAt image j)) count q (s .at) (s .low) (omega (arith, s .below, f)))
@@ -114,17 +113,33 @@ module _ (image : List ℕ) (size count : ℕ) (u : Usable image size count) (st
           let z : _≡_ {A = ℕ} 0 1 = cc in
           omega arith
 
-  lower-none : (n : ℕ) → start ≤ n → n < best → contents image n ≡ none
-  lower-none n a c = no-contents n (omega (arith, c, b .bound)) (λ j lo hi. b .none-lower n j a c lo (omega (arith, hi, f)))
+  -- the start is past the top
+  pub next-past : (start : ℕ) → end ≤ start → asNext none ≡ asNext (lowestLive image start)
+  next-past start h = ap asNext (sym (live-none image start (λ n a c. absurd (omega (arith, a, c, h, e, ap capacity (u .has-size))))))
 
-  pub next-is : best < end → asNext (some best) ≡ asNext (lowestLive image start)
-  next-is h =
-      ap asNext (sym (next-live image start best (u .is-sound) .1 (record {
-        not-below = b .not-below h;
-        is-live = has-contents best h (b .is-seen h);
-        none-between = λ n a c. lower-none n a c;
+  -- the start itself is found
+  pub next-start : (start k best : ℕ) → start < end → k ≤ count + 1 → best ≡ start → Best image start end k best
+      → asNext (some start) ≡ asNext (lowestLive image start)
+  next-start start k best h f q b =
+      ap asNext (sym (next-live image start start (u .is-sound) .1 (record {
+        not-below = omega arith;
+        is-live = has-contents k start f h (rw q at (b .is-seen (omega (arith, q, h))));
+        none-between = λ n a c. absurd (omega (arith, a, c));
       })))
 
-  pub next-none : end ≤ best → asNext none ≡ asNext (lowestLive image start)
-  next-none h =
-      ap asNext (sym (live-none image start (λ n a c. lower-none n a (omega (arith, c, h, e, ap capacity (u .has-size))))))
+  -- all used blocks are passed
+  module _ (start k best : ℕ) (f : k ≡ count + 1) (b : Best image start end k best) where
+    lower-none : (n : ℕ) → start ≤ n → n < best → contents image n ≡ none
+    lower-none n a c = no-contents n (omega (arith, c, b .bound)) (λ j lo hi. b .none-lower n j a c lo (omega (arith, hi, f)))
+
+    pub next-is : best < end → asNext (some best) ≡ asNext (lowestLive image start)
+    next-is h =
+        ap asNext (sym (next-live image start best (u .is-sound) .1 (record {
+          not-below = b .not-below h;
+          is-live = has-contents k best (omega arith) h (b .is-seen h);
+          none-between = λ n a c. lower-none n a c;
+        })))
+
+    pub next-none : end ≤ best → asNext none ≡ asNext (lowestLive image start)
+    next-none h =
+        ap asNext (sym (live-none image start (λ n a c. lower-none n a (omega (arith, c, h, e, ap capacity (u .has-size))))))

@@ -1,4 +1,4 @@
--- The area of places as blocks are entered one after the other. Assumes nothing.
+-- The area of places as blocks are entered one after the other, the highest first. Assumes nothing.
 use Prim.Native.Nat.{ℕ, zero, suc, _+_, _-_, _≤_, _<_}
 use mathlib.Core.Path.{_≡_, refl, sym, ap, _∙_}
 use mathlib.Core.Bool.{Bool, true, false, not, cond, _&&_, and-false}
@@ -6,140 +6,170 @@ use mathlib.Core.List.{List, [], _∷_, _++_, map}
 use mathlib.Core.Option.{Option, none, some}
 use native.Mathlib.Omega.{arith}
 use native.Mathlib.Decide.{ℕ-discrete}
+use native.Mathlib.Nat.{zero-add}
 use lib.Dec.{eqb, ltb}
-use native.Mathlib.Numerals.{add-one}
-use lib.ListN.{length, getD, set, take, drop, length-map, replicate, length-replicate}
-use lib.Seq.{set-append-left, take-suc, drop-at}
-use borrow.Author.Tests.{eq-eqb, ne-eqb, lt-ltb, ltb-true, ltb-false}
+use lib.ListN.{length, getD, set, take, drop, replicate, length-map, length-set, length-take, take-append-drop}
+use lib.Seq.{getD-set-same, getD-set-other, getD-take, take-set-lt, drop-set-lt, ext-getD}
+use borrow.Author.Tests.{eq-eqb, ne-eqb, eqb-true, eqb-false, lt-ltb, ltb-true, ltb-false}
 use Rattle.words.specs.Lists.{keep, isSome, numbersFrom}
 use Rattle.words.specs.Search.{highest}
-use Rattle.words.proofs.ListLaws.{map-same}
+use Rattle.words.proofs.ListLaws.{range-at}
+use Rattle.words.proofs.LoopLaws.{highest-here, highest-next}
+use Rattle.words.proofs.PartsLaws.{numbers-length}
 use Rattle.flash_model.specs.Measures.{capacity, logicalNumbers}
 use Rattle.flash_model.specs.UserBlock.{number, rightChecksum}
 use Rattle.flash_model.specs.Partition.{blockAt, holder, contents, live}
 use Rattle.flash_model.proofs.MeasureLaws.{legal-below}
 use Rattle.flash_model.proofs.HolderLaws.{holder-held, matches}
 use Rattle.partition.specs.Usable.{Usable}
-use Rattle.listing.specs.Listing.{entryOf, places, placed, nonzero}
+use Rattle.listing.specs.Listing.{entryOf, places, Blank, enters, placed, nonzero}
 use Rattle.partition.proofs.UsableLaws.{usable-measured, holder-some}
 
--- the entries once blocks 1 to k are entered
-unfoldable pub entered : List ℕ → ℕ → ℕ → List ℕ
-entered image end k = map (λ n. entryOf (highest (λ j. matches n (blockAt image j)) k)) (numbersFrom 0 end)
+-- the entry of a number by the blocks 1 to k
+unfoldable pub entryBy : List ℕ → ℕ → ℕ → ℕ
+entryBy image k n = entryOf (highest (λ j. matches n (blockAt image j)) k)
 
-numbers-length : (k n : ℕ) → length (numbersFrom k n) ≡ n
-numbers-length k zero = refl
-numbers-length k (suc n) = ap suc (numbers-length (suc k) n)
+-- what an entry becomes when the blocks 1 to k are still to come
+abbrev pub completed : List ℕ → ℕ → List ℕ → ℕ → ℕ
+completed image k area n = cond (eqb (getD area n 0) 0) (entryBy image k n) (getD area n 0)
 
-pub entered-length : (image : List ℕ) (end k : ℕ) → length (entered image end k) ≡ end
-unfolding entered
-entered-length image end k = length-map (numbersFrom 0 end) (λ n. entryOf (highest (λ j. matches n (blockAt image j)) k)) ∙ numbers-length 0 end
+-- blocks above k are entered, of so many used ones: entries and what is still to come are the places
+pub record Filling (image : List ℕ) (end used : ℕ) (first : List ℕ) (k count : ℕ) (area : List ℕ) : Type 0 where
+  pub same-length : length area ≡ length first
+  pub behind : drop end area ≡ drop end first
+  pub counted : count ≡ nonzero (take end area)
+  pub room : count + k ≤ used
+  pub entries : (n : ℕ) → n < end → completed image k area n ≡ entryBy image used n
 
--- at first no block is entered
-pub entered-none : (image : List ℕ) (end : ℕ) → replicate end 0 ≡ entered image end 0
-unfolding entered
-entered-none image end = go 0 end
+-- ---- a block, entered or not
+
+pub entered : (end k b : ℕ) (block area : List ℕ) → number block ≡ b → enters end block area ≡ true
+    → ((_≡_ {A = ℕ} 1 (cond (enters end block area) 1 0)) × (1 ≤ 1)) × (set area b k ≡ placed end k block area)
+unfolding placed
+entered end k b block area n e = ((rw e, omega arith), rw (n, e))
+
+pub not-entered : (end k : ℕ) (block area : List ℕ) → enters end block area ≡ false
+    → ((_≡_ {A = ℕ} 0 (cond (enters end block area) 1 0)) × (0 ≤ 1)) × (area ≡ placed end k block area)
+unfolding placed
+not-entered end k block area e = ((rw e, omega arith), rw e)
+
+-- ---- at first
+
+pub blank-new : (m : ℕ) → Blank (replicate m 0)
+blank-new zero n = refl
+blank-new (suc m) zero = refl
+blank-new (suc m) (suc n) = blank-new m n
+
+blank-none : (l : List ℕ) → Blank l → nonzero l ≡ 0
+unfolding nonzero
+blank-none [] b = refl
+blank-none (x ∷ l) b = rw (b 0) (blank-none l (λ n. b (suc n)))
+
+blank-take : (e : ℕ) (l : List ℕ) → Blank l → Blank (take e l)
+blank-take zero l b n = refl
+blank-take (suc e) [] b n = refl
+blank-take (suc e) (x ∷ l) b zero = b 0
+blank-take (suc e) (x ∷ l) b (suc n) = blank-take e l (λ m. b (suc m)) n
+
+pub filling-first : (image : List ℕ) (end used : ℕ) (first : List ℕ) → Blank first → Filling image end used first used 0 first
+filling-first image end used first b = record {
+  same-length = refl;
+  behind = refl;
+  counted = sym (blank-none (take end first) (blank-take end first b));
+  room = omega arith;
+  entries = λ n h. rw (b n);
+}
+
+-- ---- one block more
+
+-- one entry more is not 0
+nonzero-set : (l : List ℕ) (i v : ℕ) → i < length l → getD l i 0 ≡ 0 → (v ≡ 0 → ⊥) → nonzero (set l i v) ≡ nonzero l + 1
+unfolding nonzero
+nonzero-set [] i v h e d = absurd (omega arith)
+nonzero-set (x ∷ l) zero v h e d = rw (e, ne-eqb v 0 d) (omega arith)
+nonzero-set (x ∷ l) (suc i) v h e d = go (nonzero-set l i v (omega arith) e d) (eqb x 0)
   where
-    go : (k n : ℕ) → replicate n 0 ≡ map (λ n. entryOf (highest (λ j. matches n (blockAt image j)) 0)) (numbersFrom k n)
-    go k zero = refl
-    go k (suc n) = ap (λ (l : List ℕ). 0 ∷ l) (go (suc k) n)
+    go : length (keep (λ entry. not (eqb entry 0)) (set l i v)) ≡ length (keep (λ entry. not (eqb entry 0)) l) + 1
+        → (t : Bool) → length (cond (not t) (x ∷ keep (λ entry. not (eqb entry 0)) (set l i v)) (keep (λ entry. not (eqb entry 0)) (set l i v)))
+        ≡ length (cond (not t) (x ∷ keep (λ entry. not (eqb entry 0)) l) (keep (λ entry. not (eqb entry 0)) l)) + 1
+    go ih true = ih
+    go ih false = omega (arith, ih)
 
--- one entry of a list over a range stored
-set-range : (f : ℕ → ℕ) (k n i v : ℕ) → set (map f (numbersFrom k n)) i v ≡ map (λ j. cond (eqb j (k + i)) v (f j)) (numbersFrom k n)
-set-range f k zero i v = refl
-set-range f k (suc n) zero v =
-    rw (eq-eqb k (k + 0) (omega arith)) (ap (λ (l : List ℕ). v ∷ l) (map-same f (λ j. cond (eqb j (k + 0)) v (f j)) (suc k) n
-    (λ j lo hi. sym (rw (ne-eqb j (k + 0) (λ e. omega (arith, e, lo)))))))
-set-range f k (suc n) (suc i) v =
-    let e : suc k + i ≡ k + suc i = omega arith in
-    rw (ne-eqb k (k + suc i) (λ e. omega (arith, e)), ← e) (ap (λ (l : List ℕ). f k ∷ l) (set-range f (suc k) n i v))
+module _ (image : List ℕ) (end used : ℕ) (first : List ℕ) (k count : ℕ) (area : List ℕ) (long : end ≤ length first) (low : 1 ≤ k)
+    (f : Filling image end used first k count area) where
+  entry-here : (n : ℕ) → matches n (blockAt image k) ≡ true → entryBy image k n ≡ k
+  unfolding entryBy
+  entry-here n m = ap entryOf (highest-here (λ j. matches n (blockAt image j)) k low m)
 
--- block k entered behind those below it
-module _ (image : List ℕ) (end k : ℕ) (rest : List ℕ) where
-  block : List ℕ
-  block = blockAt image (suc k)
+  entry-next : (n : ℕ) → matches n (blockAt image k) ≡ false → entryBy image k n ≡ entryBy image (k - 1) n
+  unfolding entryBy
+  entry-next n m = ap entryOf (highest-next (λ j. matches n (blockAt image j)) k low m)
 
-  old : ℕ → ℕ
-  old n = entryOf (highest (λ j. matches n (blockAt image j)) k)
-
-  new : ℕ → ℕ
-  new n = entryOf (highest (λ j. matches n (blockAt image j)) (suc k))
-
-  new-is : (n : ℕ) → new n ≡ cond (matches n (blockAt image (suc k))) (suc k) (old n)
-  unfolding new old
-  new-is n = go (matches n (blockAt image (suc k)))
+  -- the block is no number's, or its number has an entry
+  passed : ((n : ℕ) → n < end → getD area n 0 ≡ 0 → matches n (blockAt image k) ≡ false) → Filling image end used first (k - 1) (count + 0) area
+  passed none-new = record {
+    same-length = f .same-length;
+    behind = f .behind;
+    counted = omega (arith, f .counted);
+    room = omega (arith, f .room);
+    entries = λ n h. go n h (eqb (getD area n 0) 0) refl ∙ f .entries n h;
+  }
     where
-      go : (t : Bool) → entryOf (cond t (some (suc k)) (highest (λ j. matches n (blockAt image j)) k))
-          ≡ cond t (suc k) (entryOf (highest (λ j. matches n (blockAt image j)) k))
-      go true = refl
-      go false = refl
+      go : (n : ℕ) → n < end → (t : Bool) → eqb (getD area n 0) 0 ≡ t
+          → cond t (entryBy image (k - 1) n) (getD area n 0) ≡ cond t (entryBy image k n) (getD area n 0)
+      go n h true e = sym (entry-next n (none-new n h (eqb-true (getD area n 0) 0 e)))
+      go n h false e = refl
 
-  stored : number block < end → rightChecksum block ≡ true → set (entered image end k) (number block) (suc k) ≡ entered image end (suc k)
-  unfolding entered block old new
-  stored h r =
-      set-range old 0 end (number block) (suc k)
-      ∙ map-same (λ n. cond (eqb n (0 + number block)) (suc k) (old n)) new 0 end (λ n lo hi. same n (ℕ-discrete n (number block)) ∙ sym (new-is n))
+  -- the block is entered
+  stored : number (blockAt image k) < end → getD area (number (blockAt image k)) 0 ≡ 0 → rightChecksum (blockAt image k) ≡ true
+      → Filling image end used first (k - 1) (count + 1) (set area (number (blockAt image k)) k)
+  stored h free right =
+      let b = number (blockAt image k) in
+      let inside : b < length area = omega (arith, f .same-length) in
+      let within : b < length (take end area) = simp length-take (omega (arith, f .same-length)) in
+      record {
+        same-length = length-set area b k ∙ f .same-length;
+        behind = drop-set-lt end area b k h ∙ f .behind;
+        counted = omega (arith, f .counted, ap nonzero (take-set-lt end area b k h), nonzero-set (take end area) b k within (getD-take end area b 0 h ∙ free) (λ z. omega (arith, z)));
+        room = omega (arith, f .room);
+        entries = λ n l. go n (ℕ-discrete n b) inside ∙ f .entries n l;
+      }
     where
-      same : (n : ℕ) → Dec (n ≡ number (blockAt image (suc k)))
-          → cond (eqb n (0 + number (blockAt image (suc k)))) (suc k) (old n) ≡ cond (matches n (blockAt image (suc k))) (suc k) (old n)
-      same n (yes e) = rw (eq-eqb n (0 + number (blockAt image (suc k))) (omega (arith, e)), eq-eqb (number (blockAt image (suc k))) n (sym e), r)
-      same n (no d) = rw (ne-eqb n (0 + number (blockAt image (suc k))) (λ e. d (omega (arith, e))), ne-eqb (number (blockAt image (suc k))) n (λ e. d (sym e)))
+      go : (n : ℕ) → Dec (n ≡ number (blockAt image k)) → number (blockAt image k) < length area
+          → completed image (k - 1) (set area (number (blockAt image k)) k) n ≡ completed image k area n
+      go n (yes e) inside =
+          let here : matches n (blockAt image k) ≡ true = rw (eq-eqb (number (blockAt image k)) n (sym e), right) in
+          let new : getD (set area (number (blockAt image k)) k) n 0 ≡ k = rw e (getD-set-same area (number (blockAt image k)) k 0 inside) in
+          let old : getD area n 0 ≡ 0 = rw e free in
+          rw (new, old, ne-eqb k 0 (λ z. omega (arith, z))) (sym (entry-here n here))
+      go n (no d) inside =
+          let other : getD (set area (number (blockAt image k)) k) n 0 ≡ getD area n 0 = getD-set-other area (number (blockAt image k)) n k 0 d in
+          let none-here : matches n (blockAt image k) ≡ false = rw (ne-eqb (number (blockAt image k)) n (λ e. d (sym e))) in
+          rw (other, entry-next n none-here)
 
-  passed-over : ((n : ℕ) → n < end → matches n block ≡ false) → entered image end k ≡ entered image end (suc k)
-  unfolding entered block old new
-  passed-over h = map-same old new 0 end (λ n lo hi. sym (new-is n ∙ rw (h n (omega (arith, hi)))))
-
-  pub entered-next : placed end (suc k) (blockAt image (suc k)) (entered image end k ++ rest) ≡ entered image end (suc k) ++ rest
-  unfolding placed block
-  entered-next = go (ltb (number (blockAt image (suc k))) end) refl (rightChecksum (blockAt image (suc k))) refl
+  pub filling-next : (part area′ : List ℕ) (r : ℕ) → part ≡ blockAt image k → r ≡ cond (enters end part area) 1 0 → area′ ≡ placed end k part area
+      → Filling image end used first (k - 1) (count + r) area′
+  unfolding placed enters
+  filling-next part area′ r p e a =
+      rw (e, a, p) (go (ltb (number (blockAt image k)) end) refl (eqb (getD area (number (blockAt image k)) 0) 0) refl (rightChecksum (blockAt image k)) refl)
     where
-      go : (t : Bool) → ltb (number (blockAt image (suc k))) end ≡ t → (u : Bool) → rightChecksum (blockAt image (suc k)) ≡ u
-          → cond (t && u) (set (entered image end k ++ rest) (number (blockAt image (suc k))) (suc k)) (entered image end k ++ rest) ≡ entered image end (suc k) ++ rest
-      go true p true q =
-          let h = ltb-true (number (blockAt image (suc k))) end p in
-          set-append-left (entered image end k) rest (number (blockAt image (suc k))) (suc k) (omega (arith, h, entered-length image end k))
-          ∙ ap (λ (l : List ℕ). l ++ rest) (stored h q)
-      go true p false q =
-          ap (λ (l : List ℕ). l ++ rest) (passed-over (λ n h. rw q (and-false (eqb (number (blockAt image (suc k))) n))))
-      go false p u q =
-          ap (λ (l : List ℕ). l ++ rest) (passed-over (λ n h. rw (ne-eqb (number (blockAt image (suc k))) n (λ e. omega (arith, e, h, ltb-false (number (blockAt image (suc k))) end p)))))
+      go : (t : Bool) → ltb (number (blockAt image k)) end ≡ t → (u : Bool) → eqb (getD area (number (blockAt image k)) 0) 0 ≡ u
+          → (v : Bool) → rightChecksum (blockAt image k) ≡ v
+          → Filling image end used first (k - 1) (count + cond (t && (u && v)) 1 0) (cond (t && (u && v)) (set area (number (blockAt image k)) k) area)
+      go true x true y true z = stored (ltb-true (number (blockAt image k)) end x) (eqb-true (getD area (number (blockAt image k)) 0) 0 y) z
+      go true x true y false z = passed (λ n h free. rw z (and-false (eqb (number (blockAt image k)) n)))
+      go true x false y v z = passed (λ n h free. rw (ne-eqb (number (blockAt image k)) n (λ e. taken n e free)))
+        where
+          taken : (n : ℕ) → number (blockAt image k) ≡ n → getD area n 0 ≡ 0 → ⊥
+          taken n e free = eqb-false (getD area (number (blockAt image k)) 0) 0 y (rw e free)
+      go false x u y v z = passed (λ n h free. rw (ne-eqb (number (blockAt image k)) n (λ e. omega (arith, e, h, ltb-false (number (blockAt image k)) end x))))
+
+-- ---- when all used blocks are entered
 
 pub places-length : (image : List ℕ) → length (places image) ≡ capacity (length image)
 unfolding places logicalNumbers
 places-length image =
     length-map (numbersFrom 0 (capacity (length image))) (λ n. entryOf (holder image n)) ∙ numbers-length 0 (capacity (length image))
-
--- the same, as the loop goes
-pub entered-first : (image : List ℕ) (end : ℕ) (area rest : List ℕ) → area ≡ replicate end 0 ++ rest → area ≡ entered image end (1 - 1) ++ drop end area
-entered-first image end area rest e =
-    let z : 1 - 1 ≡ 0 = omega arith in
-    let d : drop end area ≡ rest = ap (drop end) e ∙ drop-at (replicate end 0) rest end (length-replicate {A = ℕ} end 0) in
-    e ∙ rw (d, z) (ap (λ (l : List ℕ). l ++ rest) (entered-none image end))
-
-pub enter-step : (image : List ℕ) (end k : ℕ) (block area area′ rest : List ℕ) → 1 ≤ k → block ≡ blockAt image k → area ≡ entered image end (k - 1) ++ rest
-    → area′ ≡ placed end k block area → area′ ≡ entered image end (k + 1 - 1) ++ rest
-enter-step image end k block area area′ rest h b e f =
-    let j = k - 1 in
-    let z : k ≡ suc (k - 1) = omega arith in
-    let y : k + 1 - 1 ≡ suc (k - 1) = omega arith in
-    f ∙ rw (b, e, y) (ap (λ (n : ℕ). placed end n (blockAt image n) (entered image end (k - 1) ++ rest)) z ∙ entered-next image end (k - 1) rest)
-
--- when all used blocks are entered
-entered-all : (image : List ℕ) (size count : ℕ) → Usable image size count → entered image (capacity size) count ≡ places image
-unfolding entered places logicalNumbers
-entered-all image size count u =
-    map-same (λ n. entryOf (highest (λ j. matches n (blockAt image j)) count)) (λ n. entryOf (holder image n)) 0 (capacity size)
-    (λ n lo hi. ap entryOf (sym (holder-some image size count u n (legal-below size n (usable-measured image size count u) ∙ lt-ltb n (capacity size) (omega (arith, hi))))))
-    ∙ ap (λ (s : ℕ). map (λ n. entryOf (holder image n)) (numbersFrom 0 (capacity s))) (sym (u .has-size))
-
--- .. and behind them stands what stood there
-pub places-at-end : (image : List ℕ) (size count : ℕ) → Usable image size count → (end : ℕ) → end ≡ capacity size → (k : ℕ) → k ≡ count + 1
-    → (area first entry : List ℕ) → area ≡ entered image end (k - 1) ++ drop end first → first ≡ replicate end 0 ++ drop end entry
-    → area ≡ places image ++ drop (capacity size) entry
-places-at-end image size count u end e k f area first entry a b =
-    let z : k - 1 ≡ count = omega arith in
-    let d : drop end first ≡ drop end entry = ap (drop end) b ∙ drop-at (replicate end 0) (drop end entry) end (length-replicate {A = ℕ} end 0) in
-    a ∙ rw (d, z, e) (ap (λ (l : List ℕ). l ++ drop (capacity size) entry) (entered-all image size count u))
 
 -- the entries that are not 0 are those of live numbers
 pub live-entries : (image : List ℕ) → nonzero (places image) ≡ live image
@@ -162,21 +192,30 @@ live-entries image = go (logicalNumbers (length image))
         both ih true = ap suc ih
         both ih false = ih
 
--- one entry more counted
-pub nonzero-next : (area : List ℕ) (i : ℕ) → i < length area → nonzero (take (i + 1) area) ≡ nonzero (take i area) + cond (eqb (getD area i 0) 0) 0 1
-unfolding nonzero
-nonzero-next area i h = rw (add-one i, take-suc area i 0) (snoc (take i area) (getD area i 0))
-  where
-    snoc : (l : List ℕ) (x : ℕ) → length (keep (λ entry. not (eqb entry 0)) (l ++ x ∷ [])) ≡ length (keep (λ entry. not (eqb entry 0)) l) + cond (eqb x 0) 0 1
-    snoc [] x = one (eqb x 0)
-      where
-        one : (t : Bool) → length (cond (not t) (x ∷ []) []) ≡ 0 + cond t 0 1
-        one true = refl
-        one false = refl
-    snoc (y ∷ l) x = more (snoc l x) (eqb y 0)
-      where
-        more : length (keep (λ entry. not (eqb entry 0)) (l ++ x ∷ [])) ≡ length (keep (λ entry. not (eqb entry 0)) l) + cond (eqb x 0) 0 1
-            → (t : Bool) → length (cond (not t) (y ∷ keep (λ entry. not (eqb entry 0)) (l ++ x ∷ [])) (keep (λ entry. not (eqb entry 0)) (l ++ x ∷ [])))
-            ≡ length (cond (not t) (y ∷ keep (λ entry. not (eqb entry 0)) l) (keep (λ entry. not (eqb entry 0)) l)) + cond (eqb x 0) 0 1
-        more ih true = ih
-        more ih false = omega (arith, ih)
+module _ (image : List ℕ) (size used : ℕ) (u : Usable image size used) (end : ℕ) (e : end ≡ capacity size) (first : List ℕ) (long : end ≤ length first)
+    (k count : ℕ) (area : List ℕ) (done : k ≤ 0) (f : Filling image end used first k count area) where
+  entry-is : (n : ℕ) → n < end → getD area n 0 ≡ entryOf (holder image n)
+  unfolding entryBy
+  entry-is n h =
+      let z : k ≡ 0 = omega arith in
+      let legal = legal-below size n (usable-measured image size used u) ∙ lt-ltb n (capacity size) (omega arith) in
+      go z (eqb (getD area n 0) 0) refl ∙ f .entries n h ∙ ap entryOf (sym (holder-some image size used u n legal))
+    where
+      go : k ≡ 0 → (t : Bool) → eqb (getD area n 0) 0 ≡ t → getD area n 0 ≡ cond t (entryBy image k n) (getD area n 0)
+      go z true y = eqb-true (getD area n 0) 0 y ∙ rw z
+      go z false y = refl
+
+  front : take end area ≡ places image
+  unfolding places logicalNumbers
+  front =
+      let c : end ≡ capacity (length image) = e ∙ ap capacity (sym (u .has-size)) in
+      let l : length (take end area) ≡ end = simp length-take (omega (arith, f .same-length)) in
+      ext-getD 0 (take end area) (map (λ n. entryOf (holder image n)) (numbersFrom 0 (capacity (length image)))) (l ∙ c ∙ sym (places-length image))
+      (λ n h. let b : n < end = omega (arith, l) in
+      getD-take end area n 0 b ∙ entry-is n b ∙ sym (range-at (λ n. entryOf (holder image n)) 0 (capacity (length image)) n 0 (omega arith) ∙ ap (λ (i : ℕ). entryOf (holder image i)) (zero-add n)))
+
+  pub places-filled : area ≡ places image ++ drop (capacity size) first
+  places-filled = sym (take-append-drop end area) ∙ rw (front, f .behind, e)
+
+  pub live-counted : count ≡ live image
+  live-counted = f .counted ∙ rw front (live-entries image)

@@ -1,11 +1,12 @@
 -- One pass over the used blocks: the physical block of each number's contents, and the lowest live number.
 -- Assumes nothing.
 use Prim.Native.Nat.{ℕ}
-use mathlib.Core.Bool.{not, cond, _&&_}
+use mathlib.Core.Path.{_≡_}
+use mathlib.Core.Bool.{Bool, not, cond, _&&_}
 use mathlib.Core.List.{List, map}
 use mathlib.Core.Option.{Option, none, some}
 use lib.Dec.{eqb, ltb, leb}
-use lib.ListN.{length, set}
+use lib.ListN.{length, getD, set}
 use Rattle.words.specs.Lists.{keep}
 use Rattle.flash_model.specs.Measures.{logicalNumbers}
 use Rattle.flash_model.specs.UserBlock.{number, rightChecksum}
@@ -22,9 +23,17 @@ entryOf (some k) = k
 unfoldable pub places : List ℕ → List ℕ
 places image = map (λ n. entryOf (holder image n)) (logicalNumbers (length image))
 
--- The area with block k entered at its number, if that is below the end and the checksum is right.
+-- An area in which no block is entered.
+abbrev pub Blank : List ℕ → Type 0
+Blank area = (n : ℕ) → getD area n 0 ≡ 0
+
+-- A block is entered if its number is below the end and has no entry yet, and the checksum is right.
+unfoldable pub enters : ℕ → List ℕ → List ℕ → Bool
+enters end block area = ltb (number block) end && (eqb (getD area (number block) 0) 0 && rightChecksum block)
+
+-- The area with block k entered at its number.
 unfoldable pub placed : ℕ → ℕ → List ℕ → List ℕ → List ℕ
-placed end k block area = cond (ltb (number block) end && rightChecksum block) (set area (number block) k) area
+placed end k block area = cond (enters end block area) (set area (number block) k) area
 
 -- How many entries are not 0.
 unfoldable pub nonzero : List ℕ → ℕ

@@ -4,13 +4,14 @@ use partition::blocks::part_from;
 use partition::blocks::right_checksum;
 use words::word;
 ghost use mathlib.Core.Path.{_≡_};
+ghost use mathlib.Core.Bool.{cond};
 ghost use mathlib.Core.List.{_++_};
-ghost use Prim.Native.Nat.{_≤_, _<_};
-ghost use lib.ListN.{length, take, drop, replicate};
+ghost use Prim.Native.Nat.{_≤_};
+ghost use lib.ListN.{length, take, drop};
 ghost use Rattle.flash_model.specs.Measures.{capacity};
-ghost use Rattle.flash_model.specs.Partition.{blockAt, live, lowestLive};
+ghost use Rattle.flash_model.specs.Partition.{live, lowestLive};
 ghost use Rattle.partition.specs.Usable.{Usable};
-ghost use Rattle.listing.specs.Listing.{places, placed, lowered, nonzero, asNext};
+ghost use Rattle.listing.specs.Listing.{places, Blank, enters, placed, lowered, asNext};
 
 // A logical number, or none.
 pub enum Next {
@@ -18,61 +19,44 @@ pub enum Next {
     Nothing,
 }
 
-// Makes the first `count` entries 0.
-fn clear(area: &mut [u16], count: usize)
-    requires { ⌜ count ≤ length (now area) ⌝ }
-    ensures { λ _. ⌜ now (area .exit) ≡ replicate count 0 ++ drop count (now (area .entry)) ⌝ }
-{
-    let mut i = 0;
-    while i < count {
-        area[i] = 0;
-        i += 1;
-    }
-}
-
-// Enters block k, which begins the part, at its number, if the number is below `end` and the checksum is right.
-fn enter(part: &[u8], k: u16, end: usize, area: &mut [u16])
+// Enters block k, which begins the part, at its number, if the number is below `end` and has no entry yet and the checksum is
+// right, which is worked only then. The answer is how many blocks were entered.
+fn enter(part: &[u8], k: u16, end: usize, area: &mut [u16]) -> usize
     requires { ⌜ (64 ≤ length (now part)) × (end ≤ length (now area)) ⌝ }
+    ensures { λ r. ⌜ (r ≡ cond (enters end (take 64 (now (part .entry))) (now (area .entry))) 1 0) × (r ≤ 1) ⌝ }
     ensures { λ _. ⌜ now (area .exit) ≡ placed end k (take 64 (now (part .entry))) (now (area .entry)) ⌝ }
 {
     let number = word(part, 0);
     if end <= number {
-        return;
+        return 0;
+    }
+    if area[number] != 0 {
+        return 0;
     }
     if right_checksum(part) {
         area[number] = k;
+        return 1;
     }
+    0
 }
 
-// Fills an area with the physical block of each number's contents, or 0: blocks in rising order, later ones overwriting.
-pub fn list_places(image: &[u8], m: Measures, used: usize, area: &mut [u16])
+// Fills an area with the physical block of each number's contents, and counts these. Blocks go in falling order, so the first of
+// a number that has a right checksum is the one, and no checksum is worked for an older copy.
+pub fn list_places(image: &[u8], m: Measures, used: usize, area: &mut [u16]) -> usize
     requires { ⌜ Usable (now image) (m .size) used ⌝ }
     requires { ⌜ capacity (m .size) ≤ length (now area) ⌝ }
+    requires { ⌜ Blank (now area) ⌝ }
     ensures { λ _. ⌜ now (area .exit) ≡ places (now (image .entry)) ++ drop (capacity (m .size)) (now (area .entry)) ⌝ }
+    ensures { λ r. ⌜ r ≡ live (now (image .entry)) ⌝ }
 {
     let end = m.capacity();
-    clear(area, end);
-    let mut k: usize = 1;
-    while k <= used {
-        enter(part_from(image, m, k), k as u16, end, area);
-        k += 1;
+    let mut count: usize = 0;
+    let mut k = used;
+    while 0 < k {
+        count += enter(part_from(image, m, k), k as u16, end, area);
+        k -= 1;
     }
-}
-
-// How many of the first `count` entries are not 0.
-pub fn count_entries(area: &[u16], count: usize) -> usize
-    requires { ⌜ count ≤ length (now area) ⌝ }
-    ensures { λ r. ⌜ r ≡ nonzero (take count (now (area .entry))) ⌝ }
-{
-    let mut live: usize = 0;
-    let mut i = 0;
-    while i < count {
-        if area[i] != 0 {
-            live += 1;
-        }
-        i += 1;
-    }
-    live
+    count
 }
 
 // The lower of `best` and the number of the block that begins this part, if that is not below the start and the checksum is
@@ -94,16 +78,22 @@ fn lower(part: &[u8], start: usize, best: usize) -> usize
     best
 }
 
-// The lowest live number not below the start.
+// The lowest live number not below the start. None is lower than the start itself, so the pass ends where that is found.
 pub fn next_number(image: &[u8], m: Measures, used: usize, start: usize) -> Next
     requires { ⌜ Usable (now image) (m .size) used ⌝ }
     ensures { λ r. ⌜ r ≡ asNext (lowestLive (now (image .entry)) start) ⌝ }
 {
     let end = m.capacity();
+    if end <= start {
+        return Next::Nothing;
+    }
     let mut best = end;
     let mut k: usize = 1;
     while k <= used {
         best = lower(part_from(image, m, k), start, best);
+        if best == start {
+            return Next::Number(start);
+        }
         k += 1;
     }
     if best < end {

@@ -4,7 +4,7 @@ use Prim.Native.Nat.{_<_}
 use native.Mathlib.Omega.{arith}
 use lib.ListN.{length, length-set}
 use Rattle.partition.proofs.UsableLaws.{usable-legal, usable-over, usable-measured, count-most}
-use Rattle.compaction.proofs.RewriteLaws.{numbers-enough}
+use Rattle.compaction.proofs.RewriteLaws.{numbers-enough, new-area}
 use Rattle.compaction.proofs.CompactionLaws.{others-high, compact-is, number-low}
 use borrow.Author.Needs.{needs}
 use Rattle.compaction.proofs.compact.Statement.{statement}
@@ -24,7 +24,7 @@ slice-aggregate-list-places c = search needs
 list-places-requires : tie.Need-list-places-requires
 list-places-requires c κs =
     let a = c .before .before .before .before in
-    (a .pre .0, numbers-enough (a .args .m .size) (usable-legal (a .args .image .now) (a .args .m .size) (a .args .used) (a .pre .0)))
+    (a .pre .0, (numbers-enough (a .args .m .size) (usable-legal (a .args .image .now) (a .args .m .size) (a .args .used) (a .pre .0)), new-area))
 
 mul-area : tie.Need-mul-area
 mul-area c =
@@ -68,7 +68,7 @@ put-block-requires c κs =
     let o = usable-over i s (a .args .used) u in
     let m = usable-measured i s (a .args .used) u in (
       record { has-size = k .keep-blocks .kept .0 ∙ o .has-size; is-legal = o .is-legal },
-      (others-high i s (a .args .used) u _ _ (k .before .before .before .before .list-places .ensures) _ (k .keep-blocks .result) (a .args .number) (a .args .page .now) (a .pre .1 .0) (a .pre .1 .1) (inside k) (k .keep-blocks .ensures), a .pre .1 .1, omega (arith, number-low i s (a .args .used) u (a .args .number) (a .pre .1 .0), m .two-bytes)),
+      (others-high i s (a .args .used) u _ _ (k .before .before .before .before .list-places .ensures .0) _ (k .keep-blocks .result) (a .args .number) (a .args .page .now) (a .pre .1 .0) (a .pre .1 .1) (inside k) (k .keep-blocks .ensures), a .pre .1 .1, omega (arith, number-low i s (a .args .used) u (a .args .number) (a .pre .1 .0), m .two-bytes)),
     )
 
 add-finish : tie.Need-add-finish
@@ -78,7 +78,7 @@ add-finish c =
     let i = a .args .image .now in
     let s = a .args .m .size in
     let u = a .pre .0 in
-    omega (arith, others-high i s (a .args .used) u _ _ (k .before .before .before .before .list-places .ensures) _ (k .keep-blocks .result) (a .args .number) (a .args .page .now) (a .pre .1 .0) (a .pre .1 .1) (inside k) (k .keep-blocks .ensures), usable-measured i s (a .args .used) u .two-bytes)
+    omega (arith, others-high i s (a .args .used) u _ _ (k .before .before .before .before .list-places .ensures .0) _ (k .keep-blocks .result) (a .args .number) (a .args .page .now) (a .pre .1 .0) (a .pre .1 .1) (inside k) (k .keep-blocks .ensures), usable-measured i s (a .args .used) u .two-bytes)
 
 finish-requires : tie.Need-finish-requires
 finish-requires c κs =
@@ -89,7 +89,7 @@ finish-requires c κs =
     let u = a .pre .0 in
     let o = usable-over i s (a .args .used) u in (
       record { has-size = c .before .before .before .put-block .kept .0 ∙ k .keep-blocks .kept .0 ∙ o .has-size; is-legal = o .is-legal },
-      (omega arith, omega (arith, others-high i s (a .args .used) u _ _ (k .before .before .before .before .list-places .ensures) _ (k .keep-blocks .result) (a .args .number) (a .args .page .now) (a .pre .1 .0) (a .pre .1 .1) (inside k) (k .keep-blocks .ensures))),
+      (omega arith, omega (arith, others-high i s (a .args .used) u _ _ (k .before .before .before .before .list-places .ensures .0) _ (k .keep-blocks .result) (a .args .number) (a .args .page .now) (a .pre .1 .0) (a .pre .1 .1) (inside k) (k .keep-blocks .ensures))),
     )
 
 same-length : tie.Need-same-length
@@ -103,7 +103,7 @@ returns c =
     let s = a .args .m .size in
     let u = a .pre .0 in
     c .before .before .finish .ensures
-    ∙ compact-is i s (a .args .used) u _ _ (k .before .before .before .before .list-places .ensures) _ (k .keep-blocks .result) (a .args .number) (a .args .page .now) (a .pre .1 .0) (a .pre .1 .1) (inside k) (k .keep-blocks .ensures)
+    ∙ compact-is i s (a .args .used) u _ _ (k .before .before .before .before .list-places .ensures .0) _ (k .keep-blocks .result) (a .args .number) (a .args .page .now) (a .pre .1 .0) (a .pre .1 .1) (inside k) (k .keep-blocks .ensures)
     _ (c .before .before .before .before .before .before .put-block .ensures)
 
 pub compact-spec : {M : Type 1} → statement M

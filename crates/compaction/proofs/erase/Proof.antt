@@ -2,7 +2,7 @@
 use mathlib.Core.Path.{_∙_}
 use native.Mathlib.Omega.{arith}
 use Rattle.partition.proofs.UsableLaws.{usable-legal, usable-over, count-most}
-use Rattle.compaction.proofs.RewriteLaws.{numbers-enough}
+use Rattle.compaction.proofs.RewriteLaws.{numbers-enough, new-area}
 use Rattle.compaction.proofs.CompactionLaws.{erase-low, erase-high, erase-is}
 use borrow.Author.Needs.{needs}
 use Rattle.compaction.proofs.erase.Statement.{statement}
@@ -14,7 +14,7 @@ slice-aggregate-list-places c = search needs
 list-places-requires : tie.Need-list-places-requires
 list-places-requires c κs =
     let a = c .before .before .before in
-    (a .pre, numbers-enough (a .args .m .size) (usable-legal (a .args .image .now) (a .args .m .size) (a .args .used) (a .pre)))
+    (a .pre, (numbers-enough (a .args .m .size) (usable-legal (a .args .image .now) (a .args .m .size) (a .args .used) (a .pre)), new-area))
 
 slice-aggregate-keep-blocks : tie.Need-slice-aggregate-keep-blocks
 slice-aggregate-keep-blocks c = search needs
@@ -36,8 +36,8 @@ finish-requires c κs =
     let a = k .before .before .before .before .before .before .before .before in
     let i = a .args .image .now in
     let o = usable-over i (a .args .m .size) (a .args .used) (a .pre) in
-    let n = erase-low i (a .args .m .size) (a .args .used) (a .pre) _ _ (k .before .before .before .before .list-places .ensures) _ (k .keep-blocks .result) (k .keep-blocks .ensures) in
-    let h = erase-high i (a .args .m .size) (a .args .used) (a .pre) _ _ (k .before .before .before .before .list-places .ensures) _ (k .keep-blocks .result) (k .keep-blocks .ensures) in
+    let n = erase-low i (a .args .m .size) (a .args .used) (a .pre) _ _ (k .before .before .before .before .list-places .ensures .0) _ (k .keep-blocks .result) (k .keep-blocks .ensures) in
+    let h = erase-high i (a .args .m .size) (a .args .used) (a .pre) _ _ (k .before .before .before .before .list-places .ensures .0) _ (k .keep-blocks .result) (k .keep-blocks .ensures) in
     (record { has-size = k .keep-blocks .kept .0 ∙ o .has-size; is-legal = o .is-legal }, (n, h))
 
 same-length : tie.Need-same-length
@@ -48,7 +48,7 @@ returns c =
     let k = c .before .before .before .before .before .before in
     let a = k .before .before .before .before .before .before .before .before in
     c .before .before .finish .ensures
-    ∙ erase-is (a .args .image .now) (a .args .m .size) (a .args .used) (a .pre) _ _ (k .before .before .before .before .list-places .ensures) _ (k .keep-blocks .result) (k .keep-blocks .ensures)
+    ∙ erase-is (a .args .image .now) (a .args .m .size) (a .args .used) (a .pre) _ _ (k .before .before .before .before .list-places .ensures .0) _ (k .keep-blocks .result) (k .keep-blocks .ensures)
 
 pub erase-spec : {M : Type 1} → statement M
 erase-spec =

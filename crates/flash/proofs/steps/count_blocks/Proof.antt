@@ -1,7 +1,7 @@
 -- `steps::count_blocks` meets its contract. Assumes nothing.
 use native.Mathlib.Omega.{arith}
 use Rattle.partition.proofs.UsableLaws.{usable-legal, usable-measured}
-use Rattle.compaction.proofs.RewriteLaws.{numbers-enough}
+use Rattle.compaction.proofs.RewriteLaws.{numbers-enough, new-area}
 use Rattle.flash.proofs.ReadLaws.{counts-are}
 use borrow.Author.Needs.{needs}
 use Rattle.flash.proofs.steps.count_blocks.Statement.{statement}
@@ -13,46 +13,25 @@ slice-aggregate-list-places c = search needs
 list-places-requires : tie.Need-list-places-requires
 list-places-requires c κs =
     let a = c .before .before in
-    let i = a .args .image .now in
     let s = a .args .m .size in
-    let u = a .pre in
-    (u, numbers-enough s (usable-legal i s (a .args .used) u))
+    (a .pre, (numbers-enough s (usable-legal (a .args .image .now) s (a .args .used) (a .pre)), new-area))
+
+shared-slice-read-t9 : tie.Need-shared-slice-read-t9
+shared-slice-read-t9 c =
+    let a = c .before .before .before .before .before in
+    let m = usable-measured (a .args .image .now) (a .args .m .size) (a .args .used) (a .pre) in
+    omega (arith, a .pre .has-size, m .whole, m .top-number)
 
 capacity-requires : tie.Need-capacity-requires
 capacity-requires c κs =
-    let a = c .before .before .before .before in
-    let i = a .args .image .now in
-    let s = a .args .m .size in
-    let u = a .pre in
-    usable-legal i s (a .args .used) u
-
-shared-slice-read-t10 : tie.Need-shared-slice-read-t10
-shared-slice-read-t10 c =
-    let a = c .before .before .before .before .before .before in
-    let i = a .args .image .now in
-    let s = a .args .m .size in
-    let u = a .pre in
-    let m = usable-measured i s (a .args .used) u in
-    omega (arith, u .has-size, m .whole, m .top-number)
-
-slice-aggregate-count-entries : tie.Need-slice-aggregate-count-entries
-slice-aggregate-count-entries c = search needs
-
-count-entries-requires : tie.Need-count-entries-requires
-count-entries-requires c κs =
-    let a = c .before .before .before .before .before .before .before in
-    let i = a .args .image .now in
-    let s = a .args .m .size in
-    let u = a .pre in
-    omega (arith, c .before .before .capacity .ensures, c .before .before .before .before .list-places .kept .1 .1 .1 .0, numbers-enough s (usable-legal i s (a .args .used) u))
+    let a = c .before .before .before .before .before in
+    usable-legal (a .args .image .now) (a .args .m .size) (a .args .used) (a .pre)
 
 returns : tie.Need-returns
 returns c =
-    let a = c .before .before .before .before .before .before .before .before in
-    let i = a .args .image .now in
-    let s = a .args .m .size in
-    let u = a .pre in
-    counts-are i s (a .args .used) u _ _ (c .before .before .before .before .before .list-places .ensures) (c .before .before .before .capacity .result) (c .count-entries .result) (c .before .before .before .capacity .ensures) (c .count-entries .ensures)
+    let a = c .before .before .before .before .before .before in
+    counts-are (a .args .image .now) (a .args .m .size) (a .args .used) (a .pre) (c .capacity .result) (c .before .before .before .list-places .result)
+    (c .capacity .ensures) (c .before .before .before .list-places .ensures .1)
 
 pub count-blocks-spec : {M : Type 1} → statement M
 count-blocks-spec =
@@ -60,8 +39,6 @@ count-blocks-spec =
     (tie.spec
     slice-aggregate-list-places
     list-places-requires
+    shared-slice-read-t9
     capacity-requires
-    shared-slice-read-t10
-    slice-aggregate-count-entries
-    count-entries-requires
     returns)
