@@ -1,0 +1,36 @@
+// Eight bytes of a run as one number, big endian. The expressions are flat because the compiler makes one load with a byte
+// swap of that shape, and of no loop.
+ghost use mathlib.Core.Path.{_≡_};
+ghost use Prim.Native.Nat.{_+_, _<_, _≤_};
+ghost use lib.ListN.{length};
+ghost use Rattle.loads.specs.BigEndian.{Word};
+
+// A byte as a number of 32 bits, with its bound.
+fn wide(x: u8) -> u32
+    ensures { λ r. ⌜ (r ≡ x) × (r < 256) ⌝ }
+{
+    x as u32
+}
+
+// A number of 32 bits as one of 64.
+fn long(x: u32) -> u64
+    ensures { λ r. ⌜ r ≡ x ⌝ }
+{
+    x as u64
+}
+
+// The four bytes from a place.
+fn word4(s: &[u8], at: usize) -> u32
+    requires { ⌜ at + 4 ≤ length (now s) ⌝ }
+    ensures { λ r. ⌜ Word 4 (now (s .entry)) at r ⌝ }
+{
+    (wide(s[at]) << 24) | (wide(s[at + 1]) << 16) | (wide(s[at + 2]) << 8) | wide(s[at + 3])
+}
+
+// The eight bytes from a place.
+pub fn word8(s: &[u8], at: usize) -> u64
+    requires { ⌜ at + 8 ≤ length (now s) ⌝ }
+    ensures { λ r. ⌜ Word 8 (now (s .entry)) at r ⌝ }
+{
+    (long(word4(s, at)) << 32) | long(word4(s, at + 4))
+}
