@@ -8,7 +8,7 @@ use native.Mathlib.Decide.{ℕ-discrete}
 use native.Mathlib.Omega.{arith}
 use lib.Bits.{bitOr, or-shifted, or-block}
 use lib.ListN.{getD}
-use lib.Pow.{pow-add, pow-pos, shl-exact, field, mod-mod-pow}
+use lib.Pow.{pow-add, pow-pos, shl-exact}
 use Rattle.loads.specs.BigEndian.{Made, Word, repeated}
 
 -- one byte more is eight digits more
@@ -17,10 +17,10 @@ pow-next n = let e : suc n * 8 ≡ n * 8 + 8 = omega arith in ap (λ (x : ℕ). 
 
 -- a word without its last byte
 front : {n : ℕ} {s : List ℕ} {at w : ℕ} → Word (suc n) s at w → Word n s at (w / 256)
-front known = record { made = known .made .0 }
+front known = record { says = known .says .0 }
 
 pub word-lt : (n : ℕ) {s : List ℕ} {at w : ℕ} → Word n s at w → w < 2 ^ (n * 8)
-word-lt zero known = omega (arith, known .made)
+word-lt zero known = omega (arith, known .says)
 word-lt (suc n) {s} {at} {w} known =
     let high : w / 256 < 2 ^ (n * 8) = word-lt n (front known) in
     let e = pow-next n in
@@ -31,12 +31,17 @@ pub word-next : (n : ℕ) {s : List ℕ} {at u : ℕ} (b : ℕ) → Word n s at 
 word-next n {s} {at} {u} b known here h =
     let high : (u * 256 + b) / 256 ≡ u = omega arith in
     let low : (u * 256 + b) % 256 ≡ b = omega arith in
-    record { made = (subst⁻¹ (Made n s at) high (known .made), here ∙ sym low) }
+    record { says = (subst⁻¹ (Made n s at) high (known .says), here ∙ sym low) }
+
+pub word-one : {s : List ℕ} {at : ℕ} (b : ℕ) → getD s at 0 ≡ b → b < 256 → Word 1 s at b
+word-one {s} {at} b here h =
+    let none : Word 0 s at 0 = record { says = refl } in
+    subst (Word 1 s at) (zero-add b) (word-next 0 b none (ap (λ (i : ℕ). getD s i 0) (add-zero at) ∙ here) h)
 
 -- one word behind another
 pub word-cat : (m n : ℕ) {s : List ℕ} {at u v : ℕ} → Word m s at u → Word n s (at + m) v → Word (m + n) s at (u * 2 ^ (n * 8) + v)
 word-cat m zero {s} {at} {u} {v} first second =
-    let e : u * 1 + v ≡ u = omega (arith, second .made) in
+    let e : u * 1 + v ≡ u = omega (arith, second .says) in
     subst⁻¹ (λ (k : ℕ). Word k s at (u * 1 + v)) (add-zero m) (subst⁻¹ (Word m s at) e first)
 word-cat m (suc n) {s} {at} {u} {v} first second =
     let x = u * 2 ^ (n * 8) in
@@ -45,24 +50,9 @@ word-cat m (suc n) {s} {at} {u} {v} first second =
     let low : (u * 2 ^ (suc n * 8) + v) % 256 ≡ v % 256 = omega arith in
     subst⁻¹ (λ (k : ℕ). Word k s at (u * 2 ^ (suc n * 8) + v)) (add-suc m n)
     record {
-      made = (
-        subst⁻¹ (Made (m + n) s at) high (word-cat m n first (front second) .made),
-        ap (λ (i : ℕ). getD s i 0) (sym (add-assoc at m n)) ∙ second .made .1 ∙ sym low,
-      );
-    }
-
--- the last n bytes of a word are what is left of it below their width
-pub word-tail : (m n : ℕ) {s : List ℕ} {at w : ℕ} → Word (m + n) s at w → Word n s (at + m) (w % 2 ^ (n * 8))
-word-tail m zero {s} {at} {w} known = record { made = omega arith }
-word-tail m (suc n) {s} {at} {w} given =
-    let known : Word (suc (m + n)) s at w = subst (λ (k : ℕ). Word k s at w) (add-suc m n) given in
-    let width : suc n * 8 ≡ n * 8 + 8 = omega arith in
-    let high : w % 2 ^ (suc n * 8) / 256 ≡ w / 256 % 2 ^ (n * 8) = ap (λ (x : ℕ). w % 2 ^ x / 256) width ∙ field w (n * 8) 8 in
-    let low : w % 2 ^ (suc n * 8) % 256 ≡ w % 256 = ap (λ (x : ℕ). w % 2 ^ x % 256) width ∙ mod-mod-pow w (n * 8) 8 in
-    record {
-      made = (
-        subst⁻¹ (Made n s (at + m)) high (word-tail m n (front known) .made),
-        ap (λ (i : ℕ). getD s i 0) (add-assoc at m n) ∙ known .made .1 ∙ sym low,
+      says = (
+        subst⁻¹ (Made (m + n) s at) high (word-cat m n first (front second) .says),
+        ap (λ (i : ℕ). getD s i 0) (sym (add-assoc at m n)) ∙ second .says .1 ∙ sym low,
       );
     }
 
@@ -75,7 +65,7 @@ word-repeated b (suc n) {s} {at} {w} h known e k lt =
     by (word-repeated b n h (front known) high k) low (ℕ-discrete k n)
   where
     by : (k < n → getD s (at + k) 0 ≡ b) → w % 256 ≡ b → Dec (k ≡ n) → getD s (at + k) 0 ≡ b
-    by before low (yes last) = ap (λ (i : ℕ). getD s (at + i) 0) last ∙ known .made .1 ∙ low
+    by before low (yes last) = ap (λ (i : ℕ). getD s (at + i) 0) last ∙ known .says .1 ∙ low
     by before low (no other) = before (omega arith)
 
 -- ---- as the code joins them
@@ -105,6 +95,4 @@ word-four {s} {at} a b c d ea eb ec ed ha hb hc hd =
     let all : bitOr (bitOr (bitOr (a * 16777216 % 4294967296) (b * 65536 % 4294967296)) (c * 256 % 4294967296)) d ≡ ((a * 256 + b) * 256 + c) * 256 + d =
     ap (λ (x : ℕ). bitOr x d) (ap₂ bitOr (ap₂ bitOr a24 b16 ∙ or-next a b 16 hb) c8 ∙ or-next (a * 256 + b) c 8 hc)
     ∙ or-shifted ((a * 256 + b) * 256 + c) 8 d hd in
-    let none : Word 0 s at 0 = record { made = refl } in
-    let one : Word 1 s at a = subst (Word 1 s at) (zero-add a) (word-next 0 a none (ap (λ (i : ℕ). getD s i 0) (add-zero at) ∙ ea) ha) in
-    subst⁻¹ (Word 4 s at) all (word-next 3 d (word-next 2 c (word-next 1 b one eb hb) ec hc) ed hd)
+    subst⁻¹ (Word 4 s at) all (word-next 3 d (word-next 2 c (word-next 1 b (word-one a ea ha) eb hb) ec hc) ed hd)

@@ -12,7 +12,7 @@ Made (suc n) s at w = Made n s at (w / 256) × (getD s (at + n) 0 ≡ w % 256)
 
 -- the same under a name that tells its arguments
 pub record Word (n : ℕ) (s : List ℕ) (at w : ℕ) : Type 0 where
-  pub made : Made n s at w
+  pub says : Made n s at w
 
 -- the number that n bytes make that are all b
 abbrev pub repeated : ℕ → ℕ → ℕ

@@ -1,5 +1,5 @@
-// Eight bytes of a run as one number, big endian. The expressions are flat because the compiler makes one load with a byte
-// swap of that shape, and of no loop.
+// Eight or six bytes of a run as one number, big endian. The expressions are flat because the compiler makes one load with a
+// byte swap of that shape, and of no loop; nor where the same bytes are read twice.
 ghost use mathlib.Core.Path.{_≡_};
 ghost use Prim.Native.Nat.{_+_, _<_, _≤_};
 ghost use lib.ListN.{length};
@@ -19,12 +19,28 @@ fn long(x: u32) -> u64
     x as u64
 }
 
+// The two bytes from a place.
+fn word2(s: &[u8], at: usize) -> u32
+    requires { ⌜ at + 2 ≤ length (now s) ⌝ }
+    ensures { λ r. ⌜ Word 2 (now (s .entry)) at r ⌝ }
+{
+    (wide(s[at]) << 8) | wide(s[at + 1])
+}
+
 // The four bytes from a place.
 fn word4(s: &[u8], at: usize) -> u32
     requires { ⌜ at + 4 ≤ length (now s) ⌝ }
     ensures { λ r. ⌜ Word 4 (now (s .entry)) at r ⌝ }
 {
     (wide(s[at]) << 24) | (wide(s[at + 1]) << 16) | (wide(s[at + 2]) << 8) | wide(s[at + 3])
+}
+
+// The six bytes from a place.
+pub fn word6(s: &[u8], at: usize) -> u64
+    requires { ⌜ at + 6 ≤ length (now s) ⌝ }
+    ensures { λ r. ⌜ Word 6 (now (s .entry)) at r ⌝ }
+{
+    (long(word4(s, at)) << 16) | long(word2(s, at + 4))
 }
 
 // The eight bytes from a place.

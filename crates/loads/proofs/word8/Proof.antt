@@ -1,6 +1,5 @@
 -- `loads::word8` meets its contract.
 -- Assumes nothing.
-use native.Mathlib.Omega.{arith}
 use borrow.Author.Needs.{needs}
 use lib.Dec.{lit≤}
 use Rattle.loads.proofs.WordLaws.{word-join}
