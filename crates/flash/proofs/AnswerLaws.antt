@@ -23,7 +23,8 @@ use Rattle.measures.specs.declared.Measures.{Measures}
 use Rattle.partition.specs.Usable.{Usable}
 use Rattle.partition.specs.Opening.{openingOf}
 use Rattle.partition.specs.declared.opening.Opened.the-variants as opening
-use Rattle.flash.specs.Answers.{numbered, listed, nextAnswer, countsOf, nextOf, readRest, orBuffer, readBuffer, wrongLengths, saveRest}
+use Rattle.pages.specs.Rows.{readRest, orBuffer, readBuffer, wrongLengths, saveRest}
+use Rattle.flash.specs.Answers.{numbered, listed, nextAnswer, countsOf, nextOf}
 use Rattle.flash.specs.declared.Counts.{Counts}
 use Rattle.flash.specs.declared.Summary.the-variants as summaries
 use Rattle.flash.specs.declared.LiveNumber.{LiveNumber}

@@ -64,7 +64,7 @@ pub fn read(image: &[u8], partition: u8, number: usize, page: &mut [u8]) -> u8
 {
     match open(image, partition) {
         Opened::Refused(refused) => refused,
-        Opened::Open(m, used) => steps::read_page(image, m, used, number, page),
+        Opened::Open(m, used) => pages::read_page(image, m, used, number, page),
     }
 }
 
@@ -74,7 +74,7 @@ pub fn save(image: &mut [u8], partition: u8, number: usize, expected: &[u8], pag
 {
     match open(&image[..], partition) {
         Opened::Refused(refused) => refused,
-        Opened::Open(m, used) => steps::save_page(image, m, used, number, expected, page),
+        Opened::Open(m, used) => pages::save_page(image, m, used, number, expected, page),
     }
 }
 

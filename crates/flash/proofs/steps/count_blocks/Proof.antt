@@ -2,7 +2,7 @@
 use native.Mathlib.Omega.{arith}
 use Rattle.partition.proofs.UsableLaws.{usable-legal, usable-measured}
 use Rattle.compaction.proofs.RewriteLaws.{numbers-enough, new-area}
-use Rattle.flash.proofs.ReadLaws.{counts-are}
+use Rattle.flash.proofs.CountLaws.{counts-are}
 use borrow.Author.Needs.{needs}
 use Rattle.flash.proofs.steps.count_blocks.Statement.{statement}
 use Rattle.flash.proofs.steps.count_blocks.Tie as tie

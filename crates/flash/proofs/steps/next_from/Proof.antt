@@ -1,7 +1,7 @@
 -- `steps::next_from` meets its contract. Assumes nothing.
 use mathlib.Core.Path.{sym, _∙_}
 use Rattle.flash_model.specs.Partition.{lowestLive}
-use Rattle.flash.proofs.ReadLaws.{next-found, next-missing}
+use Rattle.flash.proofs.CountLaws.{next-found, next-missing}
 use borrow.Author.Needs.{needs}
 use Rattle.flash.proofs.steps.next_from.Statement.{statement}
 use Rattle.flash.proofs.steps.next_from.Tie as tie

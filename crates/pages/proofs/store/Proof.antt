@@ -1,11 +1,11 @@
--- `steps::store` meets its contract. Assumes nothing.
+-- `pages::store` meets its contract. Assumes nothing.
 use mathlib.Core.Path.{sym, _∙_}
 use native.Mathlib.Omega.{arith}
 use Rattle.partition.proofs.UsableLaws.{usable-measured, usable-over}
-use Rattle.flash.proofs.StoreRules.{appends, saved-append, saved-compact}
+use Rattle.pages.proofs.StoreRules.{appends, saved-append, saved-compact}
 use borrow.Author.Needs.{needs}
-use Rattle.flash.proofs.steps.store.Statement.{statement}
-use Rattle.flash.proofs.steps.store.Tie as tie
+use Rattle.pages.proofs.store.Statement.{statement}
+use Rattle.pages.proofs.store.Tie as tie
 
 can-append-requires : tie.Need-can-append-requires
 can-append-requires c κs = c .before .before .before .pre .0

@@ -1,11 +1,11 @@
--- `steps::can_append` meets its contract. Assumes nothing.
+-- `pages::can_append` meets its contract. Assumes nothing.
 use Prim.Native.Nat.{_+_}
 use native.Mathlib.Omega.{arith}
 use Rattle.partition.proofs.UsableLaws.{usable-legal, usable-over}
-use Rattle.flash.proofs.StoreRules.{append-full, append-blank-block}
+use Rattle.pages.proofs.StoreRules.{append-full, append-blank-block}
 use borrow.Author.Needs.{needs}
-use Rattle.flash.proofs.steps.can_append.Statement.{statement}
-use Rattle.flash.proofs.steps.can_append.Tie as tie
+use Rattle.pages.proofs.can_append.Statement.{statement}
+use Rattle.pages.proofs.can_append.Tie as tie
 
 capacity-requires : tie.Need-capacity-requires
 capacity-requires c κs =

@@ -1,12 +1,12 @@
--- `steps::save_page` meets its contract: each `return` is a row of the table. Assumes nothing.
+-- `pages::save_page` meets its contract: each `return` is a row of the table. Assumes nothing.
 use mathlib.Core.Path.{sym, _∙_}
 use borrow.Author.Tests.{not-true, not-false}
 use Rattle.flash_model.proofs.MeasureLaws.{legal-le}
 use Rattle.partition.proofs.UsableLaws.{usable-legal}
-use Rattle.flash.proofs.StoreRules.{save-6, save-8, save-9, save-0, page-60}
+use Rattle.pages.proofs.StoreRules.{save-6, save-8, save-9, save-0, page-60}
 use borrow.Author.Needs.{needs}
-use Rattle.flash.proofs.steps.save_page.Statement.{statement}
-use Rattle.flash.proofs.steps.save_page.Tie as tie
+use Rattle.pages.proofs.save_page.Statement.{statement}
+use Rattle.pages.proofs.save_page.Tie as tie
 
 legal-number-requires : tie.Need-legal-number-requires
 legal-number-requires c κs =

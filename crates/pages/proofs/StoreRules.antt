@@ -25,8 +25,8 @@ use Rattle.flash_model.proofs.MeaningLaws.{contents-length}
 use Rattle.bitmap.specs.Over.{asFound}
 use Rattle.bitmap.specs.declared.Found.the-variants.{At, Nothing}
 use Rattle.partition.specs.Usable.{Usable}
-use Rattle.flash.specs.Answers.{canAppend, wrongLengths, saveRest}
-use Rattle.flash.proofs.ReadLaws.{contents-at, contents-none}
+use Rattle.pages.specs.Rows.{canAppend, wrongLengths, saveRest}
+use Rattle.pages.proofs.ReadLaws.{contents-at, contents-none}
 
 -- ---- row 8
 

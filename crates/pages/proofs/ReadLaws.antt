@@ -12,36 +12,13 @@ use Rattle.words.proofs.ListLaws.{take-drop}
 use Rattle.words.proofs.PartsLaws.{copied-over}
 use Rattle.flash_model.specs.Measures.{capacity, legalNumber}
 use Rattle.flash_model.specs.UserBlock.{payload}
-use Rattle.flash_model.specs.Partition.{blockAt, version, contents, holder, live, used}
+use Rattle.flash_model.specs.Partition.{blockAt, contents, holder}
 use Rattle.flash_model.proofs.HolderLaws.{holder-held}
 use Rattle.bitmap.specs.Over.{asFound}
 use Rattle.bitmap.specs.declared.Found.the-variants.{At, Nothing}
 use Rattle.partition.specs.Usable.{Usable}
-use Rattle.listing.specs.Listing.{asNext}
-use Rattle.listing.specs.declared.Next.the-variants as nexts
 use Rattle.partition.proofs.OpenLaws.{found-at, found-nothing}
-use Rattle.flash.specs.Answers.{countsOf, nextOf, readRest, readBuffer}
-use Rattle.flash.specs.declared.Counts.{Counts}
-use Rattle.flash.specs.declared.LiveNumber.the-variants as liveNumbers
-
--- ---- the next live number
-
-pub next-found : (o : Option ℕ) (n : ℕ) → asNext o ≡ nexts.Number n → liveNumbers.Number n ≡ nextOf o
-next-found none n e = let z : _≡_ {A = ℕ} 0 1 = cc in absurd (omega arith)
-next-found (some m) n e = let z : m ≡ n = cc in ap (λ (i : ℕ). liveNumbers.Number i) (sym z)
-
-pub next-missing : (o : Option ℕ) → asNext o ≡ nexts.Nothing → liveNumbers.Refused 7 ≡ nextOf o
-next-missing none e = refl
-next-missing (some m) e = let z : _≡_ {A = ℕ} 0 1 = cc in absurd (omega arith)
-
--- ---- the counts
-
-pub counts-are : (image : List ℕ) (size count : ℕ) → Usable image size count → (cap n : ℕ) → cap ≡ capacity size → n ≡ live image
-    → _≡_ {A = Counts} (record { version = getD image 17 0; capacity = cap; used = count; live = n }) (countsOf image)
-unfolding countsOf version
-counts-are image size count u cap n c l =
-    let s : cap ≡ capacity (length image) = c ∙ ap capacity (sym (u .has-size)) in
-    rw (s, l, u .used-is)
+use Rattle.pages.specs.Rows.{readRest, readBuffer}
 
 -- ---- a number's contents
 

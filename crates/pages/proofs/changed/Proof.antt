@@ -1,15 +1,15 @@
--- `steps::changed` meets its contract: each `return` is a case of row 9. Assumes nothing.
+-- `pages::changed` meets its contract: each `return` is a case of row 9. Assumes nothing.
 use Prim.Native.Nat.{ℕ}
 use mathlib.Core.Path.{sym, ap, _∙_}
 use mathlib.Core.Bool.{true, false}
 use mathlib.Core.List.{List}
 use Rattle.words.specs.Words.{sameBytes}
 use Rattle.partition.proofs.UsableLaws.{usable-over}
-use Rattle.flash.proofs.ReadLaws.{found-high, payload-part}
-use Rattle.flash.proofs.StoreRules.{nothing-there, page-there, nothing-left, compared}
+use Rattle.pages.proofs.ReadLaws.{found-high, payload-part}
+use Rattle.pages.proofs.StoreRules.{nothing-there, page-there, nothing-left, compared}
 use borrow.Author.Needs.{needs}
-use Rattle.flash.proofs.steps.changed.Statement.{statement}
-use Rattle.flash.proofs.steps.changed.Tie as tie
+use Rattle.pages.proofs.changed.Statement.{statement}
+use Rattle.pages.proofs.changed.Tie as tie
 
 find-requires : tie.Need-find-requires
 find-requires c κs = search needs

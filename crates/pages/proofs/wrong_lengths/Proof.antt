@@ -1,7 +1,7 @@
--- `steps::wrong_lengths` meets its contract. Assumes nothing.
-use Rattle.flash.proofs.StoreRules.{wrong-page, right-nothing, other-expected}
-use Rattle.flash.proofs.steps.wrong_lengths.Statement.{statement}
-use Rattle.flash.proofs.steps.wrong_lengths.Tie as tie
+-- `pages::wrong_lengths` meets its contract. Assumes nothing.
+use Rattle.pages.proofs.StoreRules.{wrong-page, right-nothing, other-expected}
+use Rattle.pages.proofs.wrong_lengths.Statement.{statement}
+use Rattle.pages.proofs.wrong_lengths.Tie as tie
 
 returns : tie.Need-returns
 returns c = wrong-page (c .before .args .expected .now) (c .before .args .page .now) (c .if1 .taken)

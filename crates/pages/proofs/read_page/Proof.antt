@@ -1,11 +1,11 @@
--- `steps::read_page` meets its contract: each `return` is a row of the table. Assumes nothing.
+-- `pages::read_page` meets its contract: each `return` is a row of the table. Assumes nothing.
 use mathlib.Core.Path.{sym, _∙_}
 use borrow.Author.Tests.{not-true, not-false}
 use Rattle.partition.proofs.UsableLaws.{usable-legal, usable-over}
-use Rattle.flash.proofs.ReadLaws.{contents-none, found-high, payload-part, part-60, read-6, read-8, read-7, read-0}
+use Rattle.pages.proofs.ReadLaws.{contents-none, found-high, payload-part, part-60, read-6, read-8, read-7, read-0}
 use borrow.Author.Needs.{needs}
-use Rattle.flash.proofs.steps.read_page.Statement.{statement}
-use Rattle.flash.proofs.steps.read_page.Tie as tie
+use Rattle.pages.proofs.read_page.Statement.{statement}
+use Rattle.pages.proofs.read_page.Tie as tie
 
 legal-number-requires : tie.Need-legal-number-requires
 legal-number-requires c κs =
