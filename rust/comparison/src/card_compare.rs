@@ -1,5 +1,6 @@
-//! The card calls, each made on both sides and compared.
+//! The card calls, each made on all sides and compared.
 
+use fastest::card as fastest;
 use galtuyeg::{card, raw};
 use independent::card as independent;
 use inputs::answers::{checked, no_entry, Answer, DONE};
@@ -10,10 +11,13 @@ use crate::tally::Call;
 
 pub fn check(round: &mut Round, image: &mut Lent) {
     let proved = raw::card_check(image.proved.get());
-    let other = independent::check(image.independent.get()).raw();
+    let others = [
+        independent::check(image.independent.get()).raw(),
+        fastest::check(image.fastest.get()).raw(),
+    ];
     let mut case = round.compare(Call::CardCheck, String::new());
     case.answered(proved.code);
-    case.same("check", proved, other);
+    case.same("check", proved, others);
     if case.wants_typed() {
         let typed = match card::check(image.proved.get()) {
             Ok(sound) => checked(DONE, sound.orphans.into()),
@@ -27,10 +31,13 @@ pub fn check(round: &mut Round, image: &mut Lent) {
 /// The entry found, if the card is sound and has one.
 pub fn list(round: &mut Round, image: &mut Lent, from: u64) -> Option<u64> {
     let proved = raw::card_list(image.proved.get(), from);
-    let other = independent::list(image.independent.get(), from).raw();
+    let others = [
+        independent::list(image.independent.get(), from).raw(),
+        fastest::list(image.fastest.get(), from).raw(),
+    ];
     let mut case = round.compare(Call::CardList, format!("from {from}"));
     case.answered(proved.code);
-    case.same("entry", proved, other);
+    case.same("entry", proved, others);
     if case.wants_typed() {
         let typed = match card::list(image.proved.get(), from) {
             Ok(Some(entry)) => typed_entry(&entry),
@@ -55,17 +62,25 @@ pub fn read(round: &mut Round, image: &mut Lent, asked: &Read) {
     let mut block = round.lend(asked.block);
     let proved =
         raw::card_read(image.proved.get(), name.proved.get(), asked.index, block.proved.get_mut());
-    let other = independent::read(
-        image.independent.get(),
-        name.independent.get(),
-        asked.index,
-        block.independent.get_mut(),
-    );
+    let others = [
+        independent::read(
+            image.independent.get(),
+            name.independent.get(),
+            asked.index,
+            block.independent.get_mut(),
+        ),
+        fastest::read(
+            image.fastest.get(),
+            name.fastest.get(),
+            asked.index,
+            block.fastest.get_mut(),
+        ),
+    ];
     let (bytes, index, length) = (asked.name, asked.index, asked.block.len());
     let text = format!("name {bytes:02x?} index {index} block of {length}");
     let mut case = round.compare(Call::CardRead, text);
     case.answered(proved.code);
-    case.same("verdict", proved, other.raw());
+    case.same("verdict", proved, others.map(Answer::raw));
     if case.wants_typed() {
         if let Some(typed) = typed_read(image.proved.get(), asked) {
             case.typed(typed, (proved, block.proved.get().to_vec()));

@@ -1,5 +1,6 @@
-//! The flash calls, each made on both sides and compared.
+//! The flash calls, each made on all sides and compared.
 
+use fastest::flash as fastest;
 use galtuyeg::{flash, raw};
 use independent::flash as independent;
 use inputs::answers::{no_live, no_report, Answer};
@@ -10,10 +11,13 @@ use crate::tally::Call;
 
 pub fn check(round: &mut Round, image: &mut Lent, partition: u8) -> u32 {
     let proved = raw::flash_check(image.proved.get(), partition);
-    let other = independent::check(image.independent.get(), partition);
+    let others = [
+        independent::check(image.independent.get(), partition),
+        fastest::check(image.fastest.get(), partition),
+    ];
     let mut case = round.compare(Call::FlashCheck, format!("partition {partition}"));
     case.answered(proved.into());
-    case.same("number", proved, other);
+    case.same("number", proved, others);
     if case.wants_typed() {
         let typed = flash::check(image.proved.get(), partition);
         case.typed(number_of(typed), proved);
@@ -24,10 +28,13 @@ pub fn check(round: &mut Round, image: &mut Lent, partition: u8) -> u32 {
 
 pub fn report(round: &mut Round, image: &mut Lent, partition: u8) {
     let proved = raw::flash_report(image.proved.get(), partition);
-    let other = independent::report(image.independent.get(), partition).raw();
+    let others = [
+        independent::report(image.independent.get(), partition).raw(),
+        fastest::report(image.fastest.get(), partition).raw(),
+    ];
     let mut case = round.compare(Call::FlashReport, format!("partition {partition}"));
     case.answered(proved.code);
-    case.same("report", proved, other);
+    case.same("report", proved, others);
     if case.wants_typed() {
         let typed = match flash::report(image.proved.get(), partition) {
             Ok(report) => raw::Report {
@@ -46,11 +53,14 @@ pub fn report(round: &mut Round, image: &mut Lent, partition: u8) {
 
 pub fn next_live(round: &mut Round, image: &mut Lent, partition: u8, from: u64) -> Option<u64> {
     let proved = raw::flash_next_live(image.proved.get(), partition, from);
-    let other = independent::next_live(image.independent.get(), partition, from).raw();
+    let others = [
+        independent::next_live(image.independent.get(), partition, from).raw(),
+        fastest::next_live(image.fastest.get(), partition, from).raw(),
+    ];
     let asked = format!("partition {partition} from {from}");
     let mut case = round.compare(Call::FlashNextLive, asked);
     case.answered(proved.code);
-    case.same("next live", proved, other);
+    case.same("next live", proved, others);
     if case.wants_typed() {
         let typed = match flash::next_live(image.proved.get(), partition, from) {
             Ok(Some(number)) => raw::NextLive { code: 0, number },
@@ -73,13 +83,15 @@ pub fn read(
 ) -> (u32, Vec<u8>) {
     let mut page = round.lend(page);
     let proved = raw::flash_read(image.proved.get(), partition, number, page.proved.get_mut());
-    let other =
-        independent::read(image.independent.get(), partition, number, page.independent.get_mut());
+    let others = [
+        independent::read(image.independent.get(), partition, number, page.independent.get_mut()),
+        fastest::read(image.fastest.get(), partition, number, page.fastest.get_mut()),
+    ];
     let length = page.before().len();
     let asked = format!("partition {partition} number {number} page of {length}");
     let mut case = round.compare(Call::FlashRead, asked);
     case.answered(proved.into());
-    case.same("number", proved, other);
+    case.same("number", proved, others);
     if length == flash::PAGE_BYTES && case.wants_typed() {
         let typed = match flash::read(image.proved.get(), partition, number) {
             Ok(read) => (0, read.to_vec()),
@@ -111,18 +123,27 @@ pub fn save(round: &mut Round, image: &mut Lent, asked: &Save) -> u32 {
         expected.proved.get(),
         page.proved.get(),
     );
-    let other = independent::save(
-        image.independent.get_mut(),
-        partition,
-        number,
-        expected.independent.get(),
-        page.independent.get(),
-    );
+    let others = [
+        independent::save(
+            image.independent.get_mut(),
+            partition,
+            number,
+            expected.independent.get(),
+            page.independent.get(),
+        ),
+        fastest::save(
+            image.fastest.get_mut(),
+            partition,
+            number,
+            expected.fastest.get(),
+            page.fastest.get(),
+        ),
+    ];
     let lengths = (asked.expected.len(), asked.page.len());
     let text = format!("partition {partition} number {number} expected and page of {lengths:?}");
     let mut case = round.compare(Call::FlashSave, text);
     case.answered(proved.into());
-    case.same("number", proved, other);
+    case.same("number", proved, others);
     if case.wants_typed() {
         if let Some(typed) = typed_save(image.before(), asked) {
             case.typed(typed, (proved, image.proved.get().to_vec()));
@@ -136,10 +157,13 @@ pub fn save(round: &mut Round, image: &mut Lent, asked: &Save) -> u32 {
 
 pub fn erase(round: &mut Round, image: &mut Lent, partition: u8) -> u32 {
     let proved = raw::flash_erase(image.proved.get_mut(), partition);
-    let other = independent::erase(image.independent.get_mut(), partition);
+    let others = [
+        independent::erase(image.independent.get_mut(), partition),
+        fastest::erase(image.fastest.get_mut(), partition),
+    ];
     let mut case = round.compare(Call::FlashErase, format!("partition {partition}"));
     case.answered(proved.into());
-    case.same("number", proved, other);
+    case.same("number", proved, others);
     if case.wants_typed() {
         let mut copy = image.before().to_vec();
         let typed = number_of(flash::erase(&mut copy, partition));

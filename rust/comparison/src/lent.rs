@@ -6,7 +6,11 @@ use inputs::Prng;
 
 const GUARD: usize = 64;
 
+/// The sides beside the proved library.
+pub const OTHERS: [&str; 2] = ["independent", "fastest"];
+
 /// A buffer between guard bytes.
+#[derive(Clone)]
 pub struct Guarded {
     bytes: Vec<u8>,
     start: usize,
@@ -56,21 +60,21 @@ fn pattern(at: usize) -> u8 {
     (at as u8).wrapping_mul(151) ^ 0x5b
 }
 
-/// One buffer as both sides are lent it: a copy each, and what it held before the call.
+/// One buffer as the sides are lent it: a copy each, and what it held before the call.
 pub struct Lent {
     pub proved: Guarded,
     pub independent: Guarded,
+    pub fastest: Guarded,
     before: Vec<u8>,
 }
 
 impl Lent {
     pub fn new(content: &[u8], bare: bool, prng: &mut Prng) -> Lent {
         let guard = if bare { 0 } else { GUARD };
-        Lent {
-            proved: Guarded::new(content, guard, shift(bare, prng)),
-            independent: Guarded::new(content, guard, shift(bare, prng)),
-            before: content.to_vec(),
-        }
+        let proved = Guarded::new(content, guard, shift(bare, prng));
+        let independent = Guarded::new(content, guard, shift(bare, prng));
+        let fastest = independent.clone();
+        Lent { proved, independent, fastest, before: content.to_vec() }
     }
 
     pub fn before(&self) -> &[u8] {
@@ -78,37 +82,36 @@ impl Lent {
     }
 
     /// What is wrong after a call, if anything. Where the buffer may not have changed it is compared
-    /// with what it held, else one side's copy with the other's.
+    /// with what it held, else the proved library's copy with the others'.
     pub fn fault(&mut self, may_change: bool) -> Option<String> {
         // A call that was lent the buffer shared may have written it all the same.
-        black_box(&mut self.proved.bytes);
-        black_box(&mut self.independent.bytes);
-        let (proved, independent) = (&self.proved, &self.independent);
+        let Lent { proved, independent, fastest, before } = self;
+        black_box([&mut proved.bytes, &mut independent.bytes, &mut fastest.bytes]);
         if let Some(at) = proved.broken_guard() {
             return Some(format!("the proved library wrote outside, at {at}"));
         }
-        if let Some(at) = independent.broken_guard() {
-            return Some(format!("the independent one wrote outside, at {at}"));
+        for (name, other) in OTHERS.iter().zip([independent, fastest]) {
+            if let Some(at) = other.broken_guard() {
+                return Some(format!("{name} wrote outside, at {at}"));
+            }
+            if let Some(at) = differing(proved.get(), other.get()) {
+                return Some(format!("proved and {name} differ {at}"));
+            }
         }
-        let both = differing(proved.get(), independent.get())
-            .map(|at| format!("proved and independent differ {at}"));
-        if may_change {
-            return both;
-        }
-        both.or_else(|| {
-            differing(&self.before, proved.get())
-                .map(|at| format!("refused or shared, but changed {at}"))
-        })
+        let changed = if may_change { None } else { differing(before, proved.get()) };
+        changed.map(|at| format!("refused or shared, but changed {at}"))
     }
 
-    /// Takes the bytes as they are now for those before the next call. After a difference both sides go
+    /// Takes the bytes as they are now for those before the next call. After a difference all sides go
     /// on from the proved library's, so that one fault is not reported again and again.
     pub fn settle(&mut self) {
         self.before.copy_from_slice(self.proved.get());
-        self.independent.get_mut().copy_from_slice(&self.before);
+        for other in [&mut self.independent, &mut self.fastest] {
+            other.get_mut().copy_from_slice(&self.before);
+        }
     }
 
-    /// Changes the bytes between two calls, for both sides.
+    /// Changes the bytes between two calls, for all sides.
     pub fn change(&mut self, change: impl FnOnce(&mut [u8])) {
         change(self.proved.get_mut());
         self.settle();
@@ -150,7 +153,7 @@ mod tests {
             let content = vec![7; length];
             let lent = Lent::new(&content, true, &mut bare);
             Lent::new(&content, false, &mut guarded);
-            for side in [&lent.proved, &lent.independent] {
+            for side in [&lent.proved, &lent.independent, &lent.fastest] {
                 assert_eq!((side.start, side.end), (0, side.bytes.capacity()));
             }
         }
@@ -161,17 +164,22 @@ mod tests {
     fn a_change_on_one_side_is_seen() {
         let mut buffer = lent();
         assert_eq!(buffer.fault(false), None);
-        buffer.independent.get_mut()[59] = 8;
-        assert!(buffer.fault(true).unwrap().contains("from byte 59"));
-        buffer.settle();
-        assert_eq!(buffer.fault(false), None);
+        let sides: [fn(&mut Lent) -> &mut Guarded; 3] =
+            [|lent| &mut lent.proved, |lent| &mut lent.independent, |lent| &mut lent.fastest];
+        for side in sides {
+            side(&mut buffer).get_mut()[59] ^= 8;
+            assert!(buffer.fault(true).unwrap().contains("from byte 59"));
+            buffer.settle();
+            assert_eq!(buffer.fault(true), None);
+        }
     }
 
     #[test]
-    fn a_change_on_both_sides_is_seen_where_none_may_be() {
+    fn a_change_on_all_sides_is_seen_where_none_may_be() {
         let mut buffer = lent();
-        buffer.proved.get_mut()[0] = 8;
-        buffer.independent.get_mut()[0] = 8;
+        for side in [&mut buffer.proved, &mut buffer.independent, &mut buffer.fastest] {
+            side.get_mut()[0] = 8;
+        }
         assert_eq!(buffer.fault(true), None);
         assert!(buffer.fault(false).unwrap().contains("changed"));
     }

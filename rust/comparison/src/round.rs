@@ -4,7 +4,7 @@ use std::fmt::Debug;
 
 use inputs::Prng;
 
-use crate::lent::Lent;
+use crate::lent::{Lent, OTHERS};
 use crate::tally::{Call, Tally};
 
 /// Differences printed in full; the rest are only counted.
@@ -28,14 +28,14 @@ impl<'a> Round<'a> {
         Lent::new(content, self.bare, &mut self.prng)
     }
 
-    /// Begins the comparison of a call that both sides have made; `asked` names its arguments.
+    /// Begins the comparison of a call that all sides have made; `asked` names its arguments.
     pub fn compare(&mut self, call: Call, asked: String) -> Case<'_, 'a> {
         self.calls += 1;
         Case { round: self, call, asked }
     }
 }
 
-/// A call that both sides have made.
+/// A call that all sides have made.
 pub struct Case<'r, 'a> {
     round: &'r mut Round<'a>,
     call: Call,
@@ -50,9 +50,12 @@ impl Case<'_, '_> {
         }
     }
 
-    pub fn same<T: PartialEq + Debug>(&mut self, what: &str, proved: T, other: T) {
-        if proved != other {
-            self.differs(&format!("{what}: proved {proved:?}, independent {other:?}"));
+    /// Compares the proved library's answer with the others', in the order of [`OTHERS`].
+    pub fn same<T: PartialEq + Debug>(&mut self, what: &str, proved: T, others: [T; 2]) {
+        for (side, other) in OTHERS.iter().zip(others) {
+            if proved != other {
+                self.differs(&format!("{what}: proved {proved:?}, {side} {other:?}"));
+            }
         }
     }
 
