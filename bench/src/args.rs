@@ -3,7 +3,7 @@
 use std::time::Duration;
 
 pub const HELP: &str = "\
-Times the proved library and the independent implementation on the same inputs and prints a table.
+Times the proved library, a simple and the best plain implementation on the same inputs and prints two tables.
 
   --rounds N    how many paired rounds for each row (default 301)
   --quick       11 rounds of shorter timings: to see that it runs, not to compare
@@ -18,6 +18,12 @@ pub struct Args {
     /// The least that one timing takes; calls are repeated until it does.
     pub least: Duration,
     pub only: Option<String>,
+}
+
+impl Args {
+    pub fn wants(&self, title: &str) -> bool {
+        self.only.as_ref().is_none_or(|text| title.contains(text))
+    }
 }
 
 pub enum Asked {

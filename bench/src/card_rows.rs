@@ -2,51 +2,67 @@
 
 use std::hint::black_box;
 
+use fastest::card as fastest;
 use galtuyeg::raw;
 use independent::card as independent;
+use independent::{Entry, Refusal};
 use inputs::card::{Name, BLOCK};
 
 use crate::cards::Sample;
-use crate::rounds::{Restored, Row};
-use crate::table::Table;
+use crate::row::{Job, Restored, Row};
 
 const NOTHING_LEFT: u32 = 31;
 
-pub fn run(table: &Table) {
-    let sound =
-        [Sample::empty(), Sample::of_short_files(), Sample::of_one_file(), Sample::with_game()];
-    for sample in &sound {
-        check(table, sample);
-        list(table, sample);
-        if !sample.card.files.is_empty() {
-            read(table, sample);
-        }
-    }
-    let refused = [
+/// The calls of the simple implementation and of the best one.
+const CHECKS: [CheckCall; 2] = [independent::check, fastest::check];
+const LISTS: [ListCall; 2] = [independent::list, fastest::list];
+const READS: [ReadCall; 2] = [independent::read, fastest::read];
+
+type CheckCall = fn(&[u8]) -> Result<u64, Refusal>;
+type ListCall = fn(&[u8], u64) -> Result<Entry, Refusal>;
+type ReadCall = fn(&[u8], &[u8], u64, &mut [u8]) -> Result<(), Refusal>;
+
+/// Sound cards, then refused ones.
+pub fn samples() -> Vec<Sample> {
+    vec![
+        Sample::empty(),
+        Sample::of_short_files(),
+        Sample::of_one_file(),
+        Sample::with_game(),
         Sample::cut(),
         Sample::with_wrong_link(),
         Sample::with_shared_block(),
         Sample::with_all_shared(),
         Sample::with_same_name(),
         Sample::with_stirred_game(),
-    ];
-    for sample in &refused {
-        check(table, sample);
-    }
+    ]
 }
 
-fn check(table: &Table, sample: &Sample) {
+pub fn rows(samples: &[Sample]) -> Vec<Row<'_>> {
+    let mut rows = Vec::new();
+    for sample in samples {
+        rows.push(check(sample));
+        if sample.code == 0 {
+            rows.push(list(sample));
+        }
+        if sample.code == 0 && !sample.card.files.is_empty() {
+            rows.push(read(sample));
+        }
+    }
+    rows
+}
+
+fn job<I, S>(call: &'static str, sample: &Sample, inputs: Vec<I>, fresh: S) -> Job<I, S> {
+    let on = sample.name.clone();
+    Job { call, kib: None, on, inputs, answer: 0, fresh, restored: Restored::EachTiming }
+}
+
+fn check(sample: &Sample) -> Row<'_> {
     let image = &sample.card.bytes[..];
-    let row = Row {
-        call: "card check",
-        inputs: &[()],
-        answer: sample.code,
-        fresh: (),
-        restored: Restored::EachTiming,
-        ours: |_: &mut (), _: &()| raw::card_check(black_box(image)),
-        theirs: |_: &mut (), _: &()| independent::check(black_box(image)),
-    };
-    table.row(&sample.name, &row);
+    Job { answer: sample.code, ..job("card check", sample, vec![()], ()) }.row(
+        |_, ()| raw::card_check(black_box(image)),
+        CHECKS.map(|check| move |_: &mut (), _: &()| check(black_box(image))),
+    )
 }
 
 /// The starts of a walk from 0 on until nothing is left.
@@ -60,38 +76,27 @@ fn starts(image: &[u8]) -> Vec<u64> {
     starts
 }
 
-fn list(table: &Table, sample: &Sample) {
+fn list(sample: &Sample) -> Row<'_> {
     let image = &sample.card.bytes[..];
-    let row = Row {
-        call: "card list, a walk",
-        inputs: &starts(image),
-        answer: NOTHING_LEFT,
-        fresh: (),
-        restored: Restored::EachTiming,
-        ours: |_: &mut (), &from: &u64| raw::card_list(black_box(image), from),
-        theirs: |_: &mut (), &from: &u64| independent::list(black_box(image), from),
-    };
-    table.row(&sample.name, &row);
+    let walk = job("card list, a walk", sample, starts(image), ());
+    Job { answer: NOTHING_LEFT, ..walk }.row(
+        |_, &from| raw::card_list(black_box(image), from),
+        LISTS.map(|list| move |_: &mut (), &from: &u64| list(black_box(image), from)),
+    )
 }
 
 /// Every block of every file.
-fn read(table: &Table, sample: &Sample) {
+fn read(sample: &Sample) -> Row<'_> {
     let image = &sample.card.bytes[..];
     let files = sample.card.files.iter().map(|file| (file.name, file.blocks.len() as u64));
     let blocks: Vec<(Name, u64)> =
         files.flat_map(|(name, size)| (0..size).map(move |index| (name, index))).collect();
-    let row = Row {
-        call: "card read",
-        inputs: &blocks,
-        answer: 0,
-        fresh: [0; BLOCK],
-        restored: Restored::EachTiming,
-        ours: |block: &mut [u8; BLOCK], (name, index): &(Name, u64)| {
-            raw::card_read(black_box(image), name, *index, block)
-        },
-        theirs: |block: &mut [u8; BLOCK], (name, index): &(Name, u64)| {
-            independent::read(black_box(image), name, *index, block)
-        },
-    };
-    table.row(&sample.name, &row);
+    job("card read", sample, blocks, [0; BLOCK]).row(
+        |block, (name, index)| raw::card_read(black_box(image), name, *index, block),
+        READS.map(|read| {
+            move |block: &mut [u8; BLOCK], (name, index): &(Name, u64)| {
+                read(black_box(image), name, *index, block)
+            }
+        }),
+    )
 }

@@ -2,66 +2,86 @@
 
 use std::hint::black_box;
 
+use fastest::flash as fastest;
 use galtuyeg::raw;
 use independent::flash as independent;
-use inputs::flash::{BLOCK, PAGE, SIZES};
+use independent::Report;
+use inputs::flash::{Size, BLOCK, PAGE, SIZES};
 use inputs::Prng;
 
-use crate::partitions::{Sample, NUMBER};
-use crate::rounds::{Restored, Row};
-use crate::table::Table;
+use crate::partitions::{Filling, Sample, NUMBER};
+use crate::row::{Job, Restored, Row};
 
 /// How many numbers are read or saved in turn.
 const SPREAD: usize = 16;
 
 const NOTHING_LEFT: u32 = 7;
 
-pub fn run(table: &Table) {
-    for size in SIZES {
-        let sparse = Sample::sparse(size);
-        let half = Sample::half_used(size);
-        let full = Sample::full(size);
-        for sample in [&sparse, &half, &full] {
-            check(table, sample);
-            report(table, sample);
-            next_live(table, sample);
-        }
-        read(table, &half);
-        read(table, &full);
-        append(table, &half);
-        compaction(table, &Sample::half_used_spoilt(size));
-        compaction(table, &full);
-        erase(table, &half);
-        erase(table, &full);
-    }
+type Call = for<'a> fn(&'a Sample) -> Row<'a>;
+
+/// The calls of the simple implementation and of the best one.
+const CHECKS: [fn(&[u8], u8) -> u32; 2] = [independent::check, fastest::check];
+const REPORTS: [ReportCall; 2] = [independent::report, fastest::report];
+const NEXTS: [NextCall; 2] = [independent::next_live, fastest::next_live];
+const READS: [ReadCall; 2] = [independent::read, fastest::read];
+const SAVES: [SaveCall; 2] = [independent::save, fastest::save];
+const ERASES: [fn(&mut [u8], u8) -> u32; 2] = [independent::erase, fastest::erase];
+
+type ReportCall = fn(&[u8], u8) -> Result<Report, u32>;
+type NextCall = fn(&[u8], u8, u64) -> Result<u64, u32>;
+type ReadCall = fn(&[u8], u8, u64, &mut [u8]) -> u32;
+type SaveCall = fn(&mut [u8], u8, u64, &[u8], &[u8]) -> u32;
+
+/// What is called on which filling.
+const CALLS: [(Filling, &[Call]); 5] = [
+    (Filling::Sparse, &[check, report, next_live, read, append, compaction, erase]),
+    (Filling::HalfUsed, &[check, report, next_live, read, append, compaction, erase]),
+    (Filling::Full, &[check, report, next_live, read, compaction, erase]),
+    (Filling::Stale, &[report, next_live, read, read_missing, compaction, erase]),
+    (Filling::Damaged, &[report, next_live, read, compaction, erase]),
+];
+
+/// Those that show how the cost grows with the image.
+const GROWING: [Filling; 2] = [Filling::HalfUsed, Filling::Full];
+
+/// The samples of each size, in the order of the calls on them.
+pub fn samples() -> [Vec<Sample>; 3] {
+    SIZES.map(|size: Size| CALLS.iter().map(|&(filling, _)| Sample::new(filling, size)).collect())
 }
 
-fn check(table: &Table, sample: &Sample) {
-    let image = &sample.partition.bytes[..];
-    let row = Row {
-        call: "check",
-        inputs: &[NUMBER],
-        answer: 0,
-        fresh: (),
-        restored: Restored::EachTiming,
-        ours: |_: &mut (), &number: &u8| raw::flash_check(black_box(image), number),
-        theirs: |_: &mut (), &number: &u8| independent::check(black_box(image), number),
-    };
-    table.row(&sample.name, &row);
+/// The rows of each size, in the same order for all.
+pub fn rows(samples: &[Vec<Sample>; 3]) -> [Vec<Row<'_>>; 3] {
+    samples.each_ref().map(|samples| {
+        let called = samples.iter().zip(CALLS);
+        called.flat_map(|(sample, (_, calls))| calls.iter().map(move |call| call(sample))).collect()
+    })
 }
 
-fn report(table: &Table, sample: &Sample) {
+/// The same calls on images of each length, for the fillings that show growth.
+pub fn growing<'a>(rows: &'a [Vec<Row<'a>>; 3]) -> impl Iterator<Item = [&'a Row<'a>; 3]> {
+    let lines = (0..rows[0].len()).map(|at| rows.each_ref().map(|rows| &rows[at]));
+    lines.filter(|line| GROWING.iter().any(|filling| line[0].on == filling.name()))
+}
+
+fn job<I, S>(call: &'static str, sample: &Sample, inputs: Vec<I>, fresh: S) -> Job<I, S> {
+    let (kib, on) = (Some(sample.kib()), sample.filling.name().into());
+    Job { call, kib, on, inputs, answer: 0, fresh, restored: Restored::EachTiming }
+}
+
+fn check(sample: &Sample) -> Row<'_> {
     let image = &sample.partition.bytes[..];
-    let row = Row {
-        call: "report",
-        inputs: &[NUMBER],
-        answer: 0,
-        fresh: (),
-        restored: Restored::EachTiming,
-        ours: |_: &mut (), &number: &u8| raw::flash_report(black_box(image), number),
-        theirs: |_: &mut (), &number: &u8| independent::report(black_box(image), number),
-    };
-    table.row(&sample.name, &row);
+    job("check", sample, vec![NUMBER], ()).row(
+        |_, &number| raw::flash_check(black_box(image), number),
+        CHECKS.map(|check| move |_: &mut (), &number: &u8| check(black_box(image), number)),
+    )
+}
+
+fn report(sample: &Sample) -> Row<'_> {
+    let image = &sample.partition.bytes[..];
+    job("report", sample, vec![NUMBER], ()).row(
+        |_, &number| raw::flash_report(black_box(image), number),
+        REPORTS.map(|report| move |_: &mut (), &number: &u8| report(black_box(image), number)),
+    )
 }
 
 /// The starts of a walk from 0 on until nothing is left.
@@ -75,38 +95,33 @@ fn starts(image: &[u8]) -> Vec<u64> {
     starts
 }
 
-fn next_live(table: &Table, sample: &Sample) {
+fn next_live(sample: &Sample) -> Row<'_> {
     let image = &sample.partition.bytes[..];
-    let row = Row {
-        call: "next-live, a walk",
-        inputs: &starts(image),
-        answer: NOTHING_LEFT,
-        fresh: (),
-        restored: Restored::EachTiming,
-        ours: |_: &mut (), &from: &u64| raw::flash_next_live(black_box(image), NUMBER, from),
-        theirs: |_: &mut (), &from: &u64| independent::next_live(black_box(image), NUMBER, from),
-    };
-    table.row(&sample.name, &row);
+    let walk = job("next-live, a walk", sample, starts(image), ());
+    Job { answer: NOTHING_LEFT, ..walk }.row(
+        |_, &from| raw::flash_next_live(black_box(image), NUMBER, from),
+        NEXTS.map(|next| move |_: &mut (), &from: &u64| next(black_box(image), NUMBER, from)),
+    )
 }
 
-fn read(table: &Table, sample: &Sample) {
+fn read(sample: &Sample) -> Row<'_> {
+    let numbers = sample.spread(SPREAD).map(|(number, _)| number).collect();
+    read_row(sample, job("read", sample, numbers, [0; PAGE]))
+}
+
+fn read_missing(sample: &Sample) -> Row<'_> {
+    let missing = job("read of a missing number", sample, vec![0], [0; PAGE]);
+    read_row(sample, Job { answer: NOTHING_LEFT, ..missing })
+}
+
+fn read_row(sample: &Sample, job: Job<u64, [u8; PAGE]>) -> Row<'_> {
     let image = &sample.partition.bytes[..];
-    let numbers: Vec<u64> =
-        sample.spread(SPREAD).into_iter().map(|place| sample.block(place).0).collect();
-    let row = Row {
-        call: "read",
-        inputs: &numbers,
-        answer: 0,
-        fresh: [0; PAGE],
-        restored: Restored::EachTiming,
-        ours: |page: &mut [u8; PAGE], &number: &u64| {
-            raw::flash_read(black_box(image), NUMBER, number, page)
-        },
-        theirs: |page: &mut [u8; PAGE], &number: &u64| {
-            independent::read(black_box(image), NUMBER, number, page)
-        },
-    };
-    table.row(&sample.name, &row);
+    job.row(
+        |page, &number| raw::flash_read(black_box(image), NUMBER, number, page),
+        READS.map(|read| {
+            move |page: &mut [u8; PAGE], &number: &u64| read(black_box(image), NUMBER, number, page)
+        }),
+    )
 }
 
 /// A live number, what it holds and what it is to hold.
@@ -117,96 +132,80 @@ struct Save<'a> {
 }
 
 impl Save<'_> {
-    fn ours(&self, image: &mut [u8]) -> u32 {
-        raw::flash_save(image, NUMBER, self.number, self.expected, &self.page)
-    }
-
-    fn theirs(&self, image: &mut [u8]) -> u32 {
-        independent::save(image, NUMBER, self.number, self.expected, &self.page)
+    fn by(&self, save: SaveCall, image: &mut [u8]) -> u32 {
+        save(image, NUMBER, self.number, self.expected, &self.page)
     }
 }
 
 fn saves(sample: &Sample) -> Vec<Save<'_>> {
     let mut prng = Prng::new(5, 0);
-    let save = |place| {
-        let (number, expected) = sample.block(place);
-        Save { number, expected, page: prng.array() }
-    };
-    sample.spread(SPREAD).into_iter().map(save).collect()
+    let save = |(number, expected)| Save { number, expected, page: prng.array() };
+    sample.spread(SPREAD).map(save).collect()
 }
 
-/// Only what an append changes is restored: a copy of the whole image would take longer than the call.
-fn append(table: &Table, sample: &Sample) {
+/// Each save finds the image as it was: before it, the block and the bitmap that an append changes are
+/// put back. A copy of the whole image would take longer than the call.
+fn append(sample: &Sample) -> Row<'_> {
     let next = (sample.partition.used + 1) * BLOCK..(sample.partition.used + 2) * BLOCK;
     let bitmap = sample.partition.size.bitmap * BLOCK;
-    let restore = |image: &mut [u8]| {
+    let restore = move |image: &mut [u8]| {
         image[next.clone()].copy_from_slice(&sample.partition.bytes[next.clone()]);
         image[bitmap..].copy_from_slice(&sample.partition.bytes[bitmap..]);
     };
-    let row = Row {
-        call: "save, append",
-        inputs: &saves(sample),
-        answer: 0,
-        fresh: sample.partition.bytes.clone(),
-        restored: Restored::InTiming,
-        ours: |image: &mut Vec<u8>, save: &Save| {
+    let append = move |save: SaveCall| {
+        let restore = restore.clone();
+        move |image: &mut Vec<u8>, asked: &Save| {
             restore(image);
-            save.ours(image)
-        },
-        theirs: |image: &mut Vec<u8>, save: &Save| {
-            restore(image);
-            save.theirs(image)
-        },
+            asked.by(save, image)
+        }
     };
-    table.row(&sample.name, &row);
+    let job = job("save, append", sample, saves(sample), sample.partition.bytes.clone());
+    Job { restored: Restored::InTiming, ..job }.row(append(raw::flash_save), SAVES.map(append))
 }
 
-fn compaction(table: &Table, sample: &Sample) {
-    let row = Row {
-        call: "save, compaction",
-        inputs: &saves(sample),
-        answer: 0,
-        fresh: sample.partition.bytes.clone(),
-        restored: Restored::EachCall,
-        ours: |image: &mut Vec<u8>, save: &Save| save.ours(image),
-        theirs: |image: &mut Vec<u8>, save: &Save| save.theirs(image),
-    };
-    table.row(&sample.name, &row);
+fn compaction(sample: &Sample) -> Row<'_> {
+    let compact = |save: SaveCall| move |image: &mut Vec<u8>, asked: &Save| asked.by(save, image);
+    let job = job("save, compaction", sample, saves(sample), sample.spoilt());
+    Job { restored: Restored::EachCall, ..job }.row(compact(raw::flash_save), SAVES.map(compact))
 }
 
-fn erase(table: &Table, sample: &Sample) {
-    let row = Row {
-        call: "erase",
-        inputs: &[NUMBER],
-        answer: 0,
-        fresh: sample.partition.bytes.clone(),
-        restored: Restored::EachCall,
-        ours: |image: &mut Vec<u8>, &number: &u8| raw::flash_erase(image, number),
-        theirs: |image: &mut Vec<u8>, &number: &u8| independent::erase(image, number),
+fn erase(sample: &Sample) -> Row<'_> {
+    let erase = |erase: fn(&mut [u8], u8) -> u32| {
+        move |image: &mut Vec<u8>, &number: &u8| erase(image, number)
     };
-    table.row(&sample.name, &row);
+    let job = job("erase", sample, vec![NUMBER], sample.partition.bytes.clone());
+    Job { restored: Restored::EachCall, ..job }.row(erase(raw::flash_erase), ERASES.map(erase))
 }
 
 #[cfg(test)]
 mod tests {
     use super::*;
 
-    fn used_after_save(sample: &Sample) -> (u64, u64) {
-        let mut image = sample.partition.bytes.clone();
-        assert_eq!(saves(sample)[0].ours(&mut image), 0);
+    fn used_after_save(sample: &Sample, mut image: Vec<u8>) -> (u64, u64) {
+        assert_eq!(saves(sample)[0].by(raw::flash_save, &mut image), 0);
         let counts = raw::flash_report(&image, NUMBER);
         (counts.used, counts.live)
     }
 
     #[test]
     fn saves_take_the_way_of_their_row() {
-        for size in SIZES {
-            let half = Sample::half_used(size);
-            assert_eq!(used_after_save(&half).0, half.partition.used as u64 + 1);
-            for compacted in [Sample::half_used_spoilt(size), Sample::full(size)] {
-                let (used, live) = used_after_save(&compacted);
-                assert_eq!(used, live);
+        for sample in samples().iter().flatten() {
+            let (used, live) = used_after_save(sample, sample.spoilt());
+            assert_eq!(used, live);
+            if sample.has_room() {
+                let (used, _) = used_after_save(sample, sample.partition.bytes.clone());
+                assert_eq!(used, sample.partition.used as u64 + 1);
             }
         }
+    }
+
+    #[test]
+    fn rows_of_all_sizes_correspond() {
+        let samples = samples();
+        let rows = rows(&samples);
+        for line in growing(&rows) {
+            assert!(line.iter().all(|row| (row.call, &row.on) == (line[0].call, &line[0].on)));
+        }
+        assert_eq!(growing(&rows).count(), 13);
     }
 }

@@ -1,35 +1,40 @@
-//! Times the proved library, through its C interface, and the independent implementation on the same
-//! inputs.
+//! Times the proved library, through its C interface, a simple implementation and the best one that plain
+//! Rust has, on the same inputs.
 
 mod args;
 mod card_rows;
 mod cards;
+mod checksum_rows;
 mod flash_rows;
 mod machine;
 mod partitions;
 mod rounds;
-mod table;
+mod row;
+mod tables;
 
 use std::env;
 use std::process::ExitCode;
 
 use args::{Args, Asked};
-use table::Table;
 
 const LEGEND: &str = "\
-Ours is the proved library, called from Rust through its C interface; theirs is the independent implementation in Rust. The
-ratio is the median of the rounds' ratios, with the 10th and the 90th percentile. In each round both sides are timed over passes
-of the same calls and on the same memory, taking turns at going first. Nanoseconds are medians for one call; in a walk that is
-one of its calls. Before the timing each call was made once on both sides: answers and bytes were the same.
+Ours is the proved library, called from Rust through its C interface; simple is `rust/independent`, for the checksum a table of
+256 numbers; best is `rust/fastest`. A ratio is the median of the rounds' ratios, with the 10th and the 90th percentile. In each
+round all three are timed over passes of the same calls and on the same memory, in rotating order. Nanoseconds are medians for
+one call; in a walk that is one of its calls. Before the timing each call was made once on all sides: answers and bytes were the
+same.
 
 Page and block buffers are filled with zeros before each timing. Images that a call writes to are restored from a master copy
-before every call: `untimed`, the whole image, between two timings; `timed`, inside the timing and for both alike, the block and
-the bitmap that an append changes.";
+before every call: `untimed`, the whole image, between two timings; `timed`, inside the timing and for all alike, the block and
+the bitmap that an append changes. Where a save is to compact and a block is free, the lowest free one is spoilt.";
+
+const GROWTH: &str = "\
+How ours grows with the image: in each round the three lengths are timed right after each other, in rotating order.";
 
 fn main() -> ExitCode {
     match args::parse(env::args().skip(1)) {
         Ok(Asked::Run(args)) => {
-            run(args);
+            run(&args);
             ExitCode::SUCCESS
         }
         Ok(Asked::Help) => {
@@ -43,9 +48,12 @@ fn main() -> ExitCode {
     }
 }
 
-fn run(args: Args) {
-    let table = Table::begin(args);
-    flash_rows::run(&table);
-    card_rows::run(&table);
-    println!("\n{LEGEND}\n\n{} rounds. {}.", table.rounds(), machine::describe());
+fn run(args: &Args) {
+    let (partitions, cards) = (flash_rows::samples(), card_rows::samples());
+    let flash = flash_rows::rows(&partitions);
+    let (card, checksum) = (card_rows::rows(&cards), checksum_rows::rows());
+    tables::ratios(args, flash.iter().flatten().chain(&card).chain(&checksum));
+    println!("\n{LEGEND}\n\n{GROWTH}\n");
+    tables::growth(args, flash_rows::growing(&flash));
+    println!("\n{} rounds. {}.", args.rounds, machine::describe());
 }

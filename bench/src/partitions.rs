@@ -1,71 +1,103 @@
-//! Sound partitions of the three lengths, more or less full.
+//! Sound partitions of the three lengths, more or less full, and the worst that they can hold.
 
-use inputs::flash::{Partition, Size, BLOCK};
+use inputs::flash::{block_mut, Partition, Size, BLOCK, PAGE};
 use inputs::Prng;
 
 pub const NUMBER: u8 = 2;
 
-/// A partition and what it is called in the table.
+/// What a partition holds, as the table calls it.
+#[derive(Clone, Copy, PartialEq)]
+pub enum Filling {
+    /// One block, with a number from the middle.
+    Sparse,
+    /// Every second number live, in any order, and older copies of every eighth of these.
+    HalfUsed,
+    /// Every number live, in any order, and so every user block in use.
+    Full,
+    /// Every user block a copy of one number.
+    Stale,
+    /// Full, but a quarter of the blocks have a bit turned.
+    Damaged,
+}
+
+impl Filling {
+    pub fn name(self) -> &'static str {
+        match self {
+            Filling::Sparse => "sparse",
+            Filling::HalfUsed => "half used",
+            Filling::Full => "full",
+            Filling::Stale => "copies of one number",
+            Filling::Damaged => "full, a quarter damaged",
+        }
+    }
+
+    /// The numbers of the used blocks.
+    fn numbers(self, size: Size) -> Vec<u16> {
+        let capacity = size.capacity() as u16;
+        let mut numbers: Vec<u16> = match self {
+            Filling::Sparse => vec![capacity / 2],
+            Filling::HalfUsed => {
+                let live = (0..capacity).step_by(2);
+                live.clone().chain(live.step_by(8)).collect()
+            }
+            Filling::Full | Filling::Damaged => (0..capacity).collect(),
+            Filling::Stale => vec![capacity / 2; capacity.into()],
+        };
+        Prng::new(1, 0).shuffle(&mut numbers);
+        numbers
+    }
+}
+
 pub struct Sample {
-    pub name: String,
+    pub filling: Filling,
     pub partition: Partition,
+    /// The blocks that hold contents.
+    holders: Vec<usize>,
 }
 
 impl Sample {
-    /// One block, with a number from the middle.
-    pub fn sparse(size: Size) -> Sample {
-        Sample::of("sparse", size, &[size.bitmap as u16 / 2])
-    }
-
-    /// Every second number live, in any order, and older copies of every eighth of these.
-    pub fn half_used(size: Size) -> Sample {
-        let live = (0..size.capacity() as u16).step_by(2);
-        let stale = live.clone().step_by(8);
-        let mut numbers: Vec<u16> = live.chain(stale).collect();
-        Prng::new(1, 0).shuffle(&mut numbers);
-        Sample::of("half used", size, &numbers)
-    }
-
-    /// The same, but the lowest free block is not FF, so that a save compacts.
-    pub fn half_used_spoilt(size: Size) -> Sample {
-        let mut made = Sample::half_used(size);
-        made.name += ", next block spoilt";
-        made.partition.bytes[(made.partition.used + 1) * BLOCK] = 0;
-        made
-    }
-
-    /// Every number live, in any order, and so every user block in use.
-    pub fn full(size: Size) -> Sample {
-        let mut numbers: Vec<u16> = (0..size.capacity() as u16).collect();
-        Prng::new(2, 0).shuffle(&mut numbers);
-        Sample::of("full", size, &numbers)
-    }
-
-    /// The number that a block has and its page.
-    pub fn block(&self, place: usize) -> (u64, &[u8]) {
-        let block = &self.partition.bytes[place * BLOCK..][..BLOCK];
-        (u16::from_le_bytes([block[0], block[1]]).into(), &block[2..62])
-    }
-
-    /// So many used blocks that hold contents, spread evenly over their places.
-    pub fn spread(&self, count: usize) -> Vec<usize> {
-        let used = 1..=self.partition.used;
-        let holders: Vec<usize> = used.filter(|&place| self.is_latest(place)).collect();
-        (0..count).map(|at| holders[(2 * at + 1) * holders.len() / (2 * count)]).collect()
-    }
-
-    fn is_latest(&self, place: usize) -> bool {
-        let number = self.block(place).0;
-        (place + 1..=self.partition.used).all(|later| self.block(later).0 != number)
-    }
-
-    /// Blocks of these numbers from block 1 on, each with a page of its own.
-    fn of(filling: &str, size: Size, numbers: &[u16]) -> Sample {
+    pub fn new(filling: Filling, size: Size) -> Sample {
         let mut partition = Partition::formatted(size, NUMBER, 1);
         let mut prng = Prng::new(3, 0);
-        for &number in numbers {
+        let mut holders: Vec<usize> = Vec::new();
+        let numbers = filling.numbers(size);
+        for (at, &number) in numbers.iter().enumerate() {
             partition.append(number, &prng.array());
+            let place = partition.used;
+            if filling == Filling::Damaged && prng.one_in(4) {
+                prng.flip_bit(&mut block_mut(&mut partition.bytes, place)[2..2 + PAGE]);
+            } else if !numbers[at + 1..].contains(&number) {
+                holders.push(place);
+            }
         }
-        Sample { name: format!("{} KiB, {filling}", size.length / 1024), partition }
+        Sample { filling, partition, holders }
+    }
+
+    pub fn kib(&self) -> usize {
+        self.partition.size.length / 1024
+    }
+
+    /// The image with its lowest free block not FF, if it has one, so that a save compacts.
+    pub fn spoilt(&self) -> Vec<u8> {
+        let mut bytes = self.partition.bytes.clone();
+        if self.has_room() {
+            bytes[(self.partition.used + 1) * BLOCK] = 0;
+        }
+        bytes
+    }
+
+    pub fn has_room(&self) -> bool {
+        self.partition.used < self.partition.size.capacity()
+    }
+
+    /// So many numbers with contents, spread evenly over their places, and their pages.
+    pub fn spread(&self, count: usize) -> impl Iterator<Item = (u64, &[u8])> {
+        let among = move |at| (2 * at + 1) * self.holders.len() / (2 * count);
+        (0..count).map(move |at| self.block(self.holders[among(at)]))
+    }
+
+    fn block(&self, place: usize) -> (u64, &[u8]) {
+        let block = &self.partition.bytes[place * BLOCK..][..BLOCK];
+        (u16::from_le_bytes([block[0], block[1]]).into(), &block[2..2 + PAGE])
     }
 }

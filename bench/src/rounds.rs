@@ -1,133 +1,94 @@
-//! Paired rounds: in each, both sides are timed over passes of the same calls, one side right after
-//! the other.
+//! Paired rounds: in each, all contestants are timed over passes of their calls, one right after the
+//! other, in rotating order.
 
-use std::hint::black_box;
-use std::time::{Duration, Instant};
+use std::time::Duration;
 
-use inputs::answers::Answer;
-
-/// How what a call writes to is made fresh again.
-#[derive(Clone, Copy, PartialEq)]
-pub enum Restored {
-    /// Before each timing: a call leaves nothing that the next one could be slower or faster for.
-    EachTiming,
-    /// By the row's calls themselves, before each: for calls too short to be timed one by one.
-    InTiming,
-    /// Before each call, which is timed alone.
-    EachCall,
+/// What is timed: passes of the same calls, so many calls in each.
+pub struct Contestant<'a> {
+    pub calls: usize,
+    /// How long so many passes take.
+    pub time: Box<dyn Fn(usize) -> Duration + 'a>,
 }
 
-/// One call on both sides.
-pub struct Row<'a, I, S, Ours, Theirs> {
-    pub call: &'static str,
-    /// One pass makes the call with each of these in turn.
-    pub inputs: &'a [I],
-    /// The number that the last of them is answered; those before it are done.
-    pub answer: u32,
-    /// What the call writes to, as it is before.
-    pub fresh: S,
-    pub restored: Restored,
-    pub ours: Ours,
-    pub theirs: Theirs,
-}
-
-/// A round's nanoseconds for one call on each side.
-pub struct Round {
-    pub ours: f64,
-    pub theirs: f64,
-}
-
-impl<I, S, Ours, Theirs, T> Row<'_, I, S, Ours, Theirs>
-where
-    S: Clone + PartialEq,
-    Ours: Fn(&mut S, &I) -> T::Raw,
-    Theirs: Fn(&mut S, &I) -> T,
-    T: Answer,
-{
-    /// `least` is what one timing takes at least. Each side has as many passes as that takes it: were
-    /// the slower side's timings longer, other work on the machine would fall on it more often.
-    pub fn run(&self, rounds: usize, least: Duration) -> Vec<Round> {
-        let left = self.agree();
-        let mut state = self.fresh.clone();
-        let ours = self.passes(&self.ours, least, &mut state);
-        let theirs = self.passes(&self.theirs, least, &mut state);
-        let mut measured = Vec::with_capacity(rounds);
-        for round in 0..rounds {
-            measured.push(self.round(round % 2 == 0, ours, theirs, &mut state));
-            // Both sides were seen to leave this; a later call that did not would be another call.
-            assert!(state == left, "{}: the calls timed left something else", self.call);
-        }
-        measured
-    }
-
-    /// Both sides must answer and leave the same for each input, with the row's number for an answer.
-    /// Gives what the last one leaves.
-    fn agree(&self) -> S {
-        let mut left = self.fresh.clone();
-        for (at, input) in self.inputs.iter().enumerate() {
-            left.clone_from(&self.fresh);
-            let mut other = self.fresh.clone();
-            let ours = (self.ours)(&mut left, input);
-            let theirs = (self.theirs)(&mut other, input);
-            let answer = if at + 1 == self.inputs.len() { self.answer } else { 0 };
-            assert_eq!(theirs.number(), answer, "{}: not the answer to input {at}", self.call);
-            assert!(ours == theirs.raw(), "{}: the answers to input {at} differ", self.call);
-            assert!(left == other, "{}: the bytes left by input {at} differ", self.call);
-        }
-        left
-    }
-
-    /// How many passes make a timing of this side long enough.
-    fn passes<R>(&self, call: &impl Fn(&mut S, &I) -> R, least: Duration, state: &mut S) -> usize {
+impl Contestant<'_> {
+    /// How many passes make a timing long enough.
+    fn passes(&self, least: Duration) -> usize {
         let mut passes = 1;
-        while self.time(call, passes, state) < least {
+        while (self.time)(passes) < least {
             passes *= 2;
         }
         passes
     }
 
-    fn round(&self, ours_first: bool, ours: usize, theirs: usize, state: &mut S) -> Round {
-        if ours_first {
-            let ours = self.per_call(&self.ours, ours, state);
-            Round { ours, theirs: self.per_call(&self.theirs, theirs, state) }
-        } else {
-            let theirs = self.per_call(&self.theirs, theirs, state);
-            Round { ours: self.per_call(&self.ours, ours, state), theirs }
+    /// Nanoseconds for one call.
+    fn per_call(&self, passes: usize) -> f64 {
+        (self.time)(passes).as_secs_f64() * 1e9 / (passes * self.calls) as f64
+    }
+}
+
+/// Each round's nanoseconds for one call of each contestant. `least` is what one timing takes at least.
+/// Each contestant has as many passes as that takes it: were the slower one's timings longer, other work
+/// on the machine would fall on it more often.
+pub fn measure<const N: usize>(
+    contestants: [&Contestant; N],
+    rounds: usize,
+    least: Duration,
+) -> Vec<[f64; N]> {
+    let passes = contestants.map(|contestant| contestant.passes(least));
+    let mut measured = vec![[0.0; N]; rounds];
+    for (round, times) in measured.iter_mut().enumerate() {
+        for turn in 0..N {
+            let who = (round + turn) % N;
+            times[who] = contestants[who].per_call(passes[who]);
         }
     }
+    measured
+}
 
-    fn per_call<R>(&self, call: &impl Fn(&mut S, &I) -> R, passes: usize, state: &mut S) -> f64 {
-        let calls = passes * self.inputs.len();
-        self.time(call, passes, state).as_secs_f64() * 1e9 / calls as f64
+/// The median of some values, and the tenth and the ninetieth of a hundred.
+pub struct Spread {
+    pub median: f64,
+    pub low: f64,
+    pub high: f64,
+}
+
+impl Spread {
+    pub fn of(values: impl Iterator<Item = f64>) -> Spread {
+        let mut sorted: Vec<f64> = values.collect();
+        sorted.sort_by(f64::total_cmp);
+        let at = |share: f64| sorted[(share * (sorted.len() - 1) as f64).round() as usize];
+        Spread { median: at(0.5), low: at(0.1), high: at(0.9) }
+    }
+}
+
+#[cfg(test)]
+mod tests {
+    use super::*;
+    use std::cell::RefCell;
+
+    #[test]
+    fn a_spread_has_values_of_the_list() {
+        let spread = Spread::of((0..=100).rev().map(f64::from));
+        assert_eq!([spread.low, spread.median, spread.high], [10.0, 50.0, 90.0]);
+        assert_eq!(Spread::of([3.0].into_iter()).high, 3.0);
     }
 
-    fn time<R>(&self, call: &impl Fn(&mut S, &I) -> R, passes: usize, state: &mut S) -> Duration {
-        state.clone_from(&self.fresh);
-        if self.restored == Restored::EachCall {
-            return self.time_apart(call, passes, state);
-        }
-        let start = Instant::now();
-        for _ in 0..passes {
-            for input in self.inputs {
-                black_box(call(black_box(&mut *state), black_box(input)));
-            }
-        }
-        start.elapsed()
-    }
-
-    fn time_apart<R>(
-        &self,
-        call: &impl Fn(&mut S, &I) -> R,
-        passes: usize,
-        state: &mut S,
-    ) -> Duration {
-        let mut total = Duration::ZERO;
-        for input in (0..passes).flat_map(|_| self.inputs) {
-            state.clone_from(&self.fresh);
-            let start = Instant::now();
-            black_box(call(black_box(&mut *state), black_box(input)));
-            total += start.elapsed();
-        }
-        total
+    #[test]
+    fn each_goes_first_in_turn_and_is_timed_long_enough() {
+        let order = RefCell::new(Vec::new());
+        let each = [1, 2, 4].map(|who| Contestant {
+            calls: who,
+            time: Box::new({
+                let order = &order;
+                move |passes| {
+                    order.borrow_mut().push(who);
+                    Duration::from_micros((passes * who) as u64)
+                }
+            }),
+        });
+        let measured = measure([&each[0], &each[1], &each[2]], 3, Duration::from_micros(4));
+        assert_eq!(measured, [[1e3; 3]; 3]);
+        let asked = order.borrow();
+        assert_eq!(asked[asked.len() - 9..], [1, 2, 4, 2, 4, 1, 4, 1, 2]);
     }
 }

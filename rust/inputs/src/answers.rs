@@ -27,6 +27,19 @@ impl Answer for u32 {
     }
 }
 
+/// A checksum, which is never refused.
+impl Answer for u16 {
+    type Raw = u16;
+
+    fn number(&self) -> u32 {
+        0
+    }
+
+    fn raw(self) -> u16 {
+        self
+    }
+}
+
 impl Answer for Result<flash::Report, u32> {
     type Raw = raw::Report;
 
