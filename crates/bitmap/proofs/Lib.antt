@@ -1,1 +1,4 @@
 pub mod BitReads
+pub mod RunLaws
+pub mod RangeLaws
+pub mod AlikeLaws

@@ -1,11 +1,15 @@
 // The bitmap of an image: which user blocks are allocated.
+mod runs;
+
 use measures::Measures;
+use runs::run_end;
 ghost use mathlib.Core.Path.{_≡_};
-ghost use Prim.Native.Nat.{_-_, _≤_};
+ghost use Prim.Native.Nat.{_+_, _*_, _-_, _/_, _≤_};
 ghost use Rattle.words.specs.Lists.{anyOf, numbersFrom};
 ghost use Rattle.flash_model.specs.Measures.{firstBitmap, capacity};
 ghost use Rattle.flash_model.specs.Partition.{allocated, lowestFree};
 ghost use Rattle.bitmap.specs.Over.{Over, asFound};
+ghost use Rattle.bitmap.specs.Run.{Alike};
 
 // A physical block, or none.
 pub enum Found {
@@ -25,13 +29,26 @@ pub fn is_allocated(image: &[u8], m: Measures, k: usize) -> bool
     (image[at] >> place) % 2 == 0
 }
 
-// The lowest free user block.
+// From the first user block of the bitmap's byte `first` on: where the blocks end whose bytes are `byte`. Only bytes that have
+// no ignored bit are looked at.
+fn alike_end(image: &[u8], m: Measures, first: usize, byte: u8) -> usize
+    requires { ⌜ Over (now image) (m .size) ⌝ }
+    requires { ⌜ first ≤ capacity (m .size) / 8 ⌝ }
+    ensures { λ r. ⌜ Alike (now (image .entry)) byte (first * 8 + 1) r ⌝ }
+{
+    let end = m.first_bitmap();
+    let bitmap = m.start(end);
+    let at = run_end(image, bitmap + first, bitmap + (end - 1) / 8, byte);
+    (at - bitmap) * 8 + 1
+}
+
+// The lowest free user block. Bytes of 0 have none, so the bits are tested from the first other byte on.
 pub fn lowest_free(image: &[u8], m: Measures) -> Found
     requires { ⌜ Over (now image) (m .size) ⌝ }
     ensures { λ r. ⌜ r ≡ asFound (lowestFree (now (image .entry))) ⌝ }
 {
     let end = m.first_bitmap();
-    let mut k = 1;
+    let mut k = alike_end(image, m, 0, 0);
     while k < end {
         if !is_allocated(image, m, k) {
             return Found::At(k);
@@ -41,19 +58,39 @@ pub fn lowest_free(image: &[u8], m: Measures) -> Found
     Found::Nothing
 }
 
-// Whether some user block from `from` on is allocated.
-pub fn allocated_from(image: &[u8], m: Measures, from: usize) -> bool
+// Whether some user block from `from` up to `to` is allocated.
+fn any_allocated(image: &[u8], m: Measures, from: usize, to: usize) -> bool
     requires { ⌜ Over (now image) (m .size) ⌝ }
-    requires { ⌜ 1 ≤ from ⌝ }
-    ensures { λ r. ⌜ r ≡ anyOf (allocated (now (image .entry))) (numbersFrom from (firstBitmap (m .size) - from)) ⌝ }
+    requires { ⌜ (1 ≤ from) × (to ≤ firstBitmap (m .size)) ⌝ }
+    ensures { λ r. ⌜ r ≡ anyOf (allocated (now (image .entry))) (numbersFrom from (to - from)) ⌝ }
 {
-    let end = m.first_bitmap();
     let mut k = from;
-    while k < end {
+    while k < to {
         if is_allocated(image, m, k) {
             return true;
         }
         k += 1;
     }
     false
+}
+
+// Whether some user block from `from` on is allocated. Bytes of FF have none, so the bits are tested up to the next byte's
+// beginning, and from the first other byte on.
+pub fn allocated_from(image: &[u8], m: Measures, from: usize) -> bool
+    requires { ⌜ Over (now image) (m .size) ⌝ }
+    requires { ⌜ 1 ≤ from ⌝ }
+    ensures { λ r. ⌜ r ≡ anyOf (allocated (now (image .entry))) (numbersFrom from (firstBitmap (m .size) - from)) ⌝ }
+{
+    let end = m.first_bitmap();
+    if end <= from {
+        return false;
+    }
+    let next = (from + 6) / 8;
+    if (end - 1) / 8 <= next {
+        return any_allocated(image, m, from, end);
+    }
+    if any_allocated(image, m, from, next * 8 + 1) {
+        return true;
+    }
+    any_allocated(image, m, alike_end(image, m, next, 255), end)
 }

@@ -1,75 +1,94 @@
--- `bitmap::allocated_from` meets its contract. The loop's invariant: what is left to look at decides.
+-- `bitmap::allocated_from` meets its contract: some block is allocated in the first byte's rest, or behind the bytes of FF.
 -- Assumes nothing.
-use Prim.Native.Nat.{ℕ, _-_, _≤_}
-use mathlib.Core.Path.{_≡_, refl, sym, ap, _∙_}
+use Prim.Native.Nat.{ℕ, _-_}
+use mathlib.Core.Path.{refl, sym, ap, _∙_}
 use native.Mathlib.Omega.{arith}
 use Rattle.words.specs.Lists.{anyOf, numbersFrom}
-use Rattle.words.proofs.LoopLaws.{any-here, any-next, any-end}
+use Rattle.words.proofs.LoopLaws.{any-end}
 use Rattle.flash_model.specs.Partition.{allocated}
 use Rattle.bitmap.proofs.BitReads.{over-measured}
+use Rattle.bitmap.proofs.AlikeLaws.{any-front, any-past}
 use borrow.Author.Needs.{needs}
 use Rattle.bitmap.proofs.allocated_from.Statement.{statement}
 use Rattle.bitmap.proofs.allocated_from.Tie as tie
 
-abbrev Inv-loop : tie.InvT-loop
-Inv-loop image m from end k₀ k = (1 ≤ k) × (anyOf (allocated image) (numbersFrom from (end - from)) ≡ anyOf (allocated image) (numbersFrom k (end - k)))
+first-bitmap-requires : tie.Need-first-bitmap-requires
+first-bitmap-requires c κs = search needs
 
-abbrev μ-loop : tie.MeasureT-loop
-μ-loop image m from end k₀ k = end - k
-
-first-bitmap-requires : tie.Need-first-bitmap-requires Inv-loop μ-loop
-first-bitmap-requires c κs = c .before .pre .0 .is-legal
-
-loop-holds : tie.Need-loop-holds Inv-loop μ-loop
-loop-holds c = (c .before .before .pre .1, refl)
-
-is-allocated-requires : tie.Need-is-allocated-requires Inv-loop μ-loop
-is-allocated-requires c κs =
-    let a = c .before .before .before .before in
-    let m = over-measured (a .args .image .now) (a .args .m .size) (a .pre .0) in
-    (a .pre .0, (c .before .loop .inv .0, omega (arith, c .loop-test .taken, c .before .before .first-bitmap .ensures, m .first-bitmap)))
-
-returns : tie.Need-returns Inv-loop μ-loop
+returns : tie.Need-returns
 returns c =
-    let l = c .before .before .before in
-    let a = l .before .before .before in
-    sym (ap (λ (n : ℕ). anyOf (allocated (a .args .image .now)) (numbersFrom (a .args .from) (n - a .args .from))) (sym (l .before .first-bitmap .ensures))
-    ∙ l .loop .inv .1
-    ∙ any-here (allocated (a .args .image .now)) (l .loop .k) (l .before .first-bitmap .result) (c .before .before .loop-test .taken) (sym (c .before .is-allocated .ensures) ∙ c .if1 .taken))
+    let f = c .before in
+    let a = f .before .before in
+    sym (any-end (allocated (a .args .image .now)) (a .args .from) _ (omega (arith, f .first-bitmap .ensures, c .if1 .taken)))
 
-add-k : tie.Need-add-k Inv-loop μ-loop
-add-k c = search needs
+add-next : tie.Need-add-next
+add-next c =
+    let f = c .before in
+    let a = f .before .before in
+    let m = over-measured (a .args .image .now) (a .args .m .size) (a .pre .0) in
+    omega (arith, m .first-bitmap, m .two-bytes)
 
-loop-less : tie.Need-loop-less Inv-loop μ-loop
-loop-less c = search needs
+sub-if2 : tie.Need-sub-if2
+sub-if2 c = search needs
 
-loop-again : tie.Need-loop-again Inv-loop μ-loop
-loop-again c =
-    let l = c .before .before .before in
-    let a = l .before .before .before in (
-      omega arith,
-      l .loop .inv .1
-          ∙ any-next (allocated (a .args .image .now)) (l .loop .k) (l .before .first-bitmap .result) (c .before .before .loop-test .taken) (sym (c .before .is-allocated .ensures) ∙ c .if1 .left),
-    )
+any-allocated-requires : tie.Need-any-allocated-requires
+any-allocated-requires c κs = search needs
 
-returns-2 : tie.Need-returns-2 Inv-loop μ-loop
+returns-2 : tie.Need-returns-2
 returns-2 c =
-    let l = c .before in
-    let a = l .before .before .before in
-    sym (ap (λ (n : ℕ). anyOf (allocated (a .args .image .now)) (numbersFrom (a .args .from) (n - a .args .from))) (sym (l .before .first-bitmap .ensures))
-    ∙ l .loop .inv .1 ∙ any-end (allocated (a .args .image .now)) (l .loop .k) (l .before .first-bitmap .result) (c .loop-test .left))
+    let f = c .before .before .before in
+    let a = f .before .before in
+    c .any-allocated .ensures ∙ ap (λ (n : ℕ). anyOf (allocated (a .args .image .now)) (numbersFrom (a .args .from) (n - a .args .from))) (f .first-bitmap .ensures)
+
+mul-any-allocated : tie.Need-mul-any-allocated
+mul-any-allocated c = search needs
+
+add-any-allocated : tie.Need-add-any-allocated
+add-any-allocated c = search needs
+
+any-allocated-requires-2 : tie.Need-any-allocated-requires-2
+any-allocated-requires-2 c κs = search needs
+
+returns-3 : tie.Need-returns-3
+returns-3 c =
+    let f = c .before .before .before .before in
+    let a = f .before .before in
+    sym (any-front (a .args .image .now) (a .args .m .size) (a .pre .0) _ refl (a .args .from) _ (sym (c .before .any-allocated2 .ensures) ∙ c .if3 .taken) (omega arith) (omega arith))
+
+alike-end-requires : tie.Need-alike-end-requires
+alike-end-requires c κs =
+    let f = c .before .before .before .before in
+    let a = f .before .before in
+    let m = over-measured (a .args .image .now) (a .args .m .size) (a .pre .0) in
+    (a .pre .0, omega (arith, m .first-bitmap))
+
+any-allocated-requires-3 : tie.Need-any-allocated-requires-3
+any-allocated-requires-3 c κs = search needs
+
+returns-4 : tie.Need-returns-4
+returns-4 c =
+    let e = c .before .before in
+    let f = e .before .before .before .before in
+    let a = f .before .before in
+    c .any-allocated3 .ensures
+    ∙ sym (any-past (a .args .image .now) (a .args .m .size) (a .pre .0) _ (f .first-bitmap .ensures) (a .args .from) _ (c .before .alike-end .result) (c .before .alike-end .ensures)
+    (sym (e .before .any-allocated2 .ensures) ∙ e .if3 .left) (omega arith))
+    ∙ ap (λ (n : ℕ). anyOf (allocated (a .args .image .now)) (numbersFrom (a .args .from) (n - a .args .from))) (f .first-bitmap .ensures)
 
 pub allocated-from-spec : {M : Type 1} → statement M
 allocated-from-spec =
     tie.close
     (tie.spec
-    Inv-loop
-    μ-loop
     first-bitmap-requires
-    loop-holds
-    is-allocated-requires
     returns
-    add-k
-    loop-less
-    loop-again
-    returns-2)
+    add-next
+    sub-if2
+    any-allocated-requires
+    returns-2
+    mul-any-allocated
+    add-any-allocated
+    any-allocated-requires-2
+    returns-3
+    alike-end-requires
+    any-allocated-requires-3
+    returns-4)
