@@ -1,12 +1,13 @@
 -- User blocks whose bytes are all alike: where a run of bytes has them, and that a search may pass them over.
 -- Assumes nothing.
-use Prim.Native.Nat.{ℕ, _+_, _*_, _-_, _/_, _≤_, _<_}
-use mathlib.Core.Path.{_≡_, sym, ap, _∙_}
-use mathlib.Core.Bool.{Bool, true, false, not, _||_}
+use Prim.Native.Nat.{ℕ, _+_, _*_, _-_, _/_, _%_, _^_, _≤_, _<_}
+use mathlib.Core.Path.{_≡_, refl, sym, ap, _∙_}
+use mathlib.Core.Bool.{true, false, not}
 use mathlib.Core.List.{List}
 use native.Mathlib.Omega.{arith}
 use native.Mathlib.Nat.{zero-div}
 use lib.ListN.{length, getD}
+use borrow.Author.Tests.{ne-eqb}
 use Rattle.words.specs.Lists.{anyOf, numbersFrom}
 use Rattle.words.specs.Search.{lowest}
 use Rattle.flash_model.specs.Measures.{firstBitmap, capacity}
@@ -14,10 +15,10 @@ use Rattle.flash_model.specs.Bitmap.{bitByte, bitPlace, bitWeight, bitOf, alloc
 use Rattle.flash_model.specs.Partition.{bitmapOf, allocated, lowestFree}
 use Rattle.flash_model.proofs.BitLaws.{ones-below}
 use Rattle.flash_model.proofs.ImageLaws.{bitmap-byte}
-use Rattle.bitmap.specs.Over.{Over}
-use Rattle.bitmap.specs.Run.{Run, Alike}
-use Rattle.bitmap.proofs.BitReads.{over-measured, lowest-start}
-use Rattle.bitmap.proofs.RangeLaws.{lowest-pass, any-pass, any-parts}
+use Rattle.bitmap.specs.Over.{Over, InByte}
+use Rattle.bitmap.specs.Run.{Ended, Alike}
+use Rattle.bitmap.proofs.BitReads.{over-measured, lowest-start, field-is}
+use Rattle.bitmap.proofs.RangeLaws.{lowest-pass, any-pass, any-front, any-rest}
 
 -- ---- bytes whose bits are all alike
 
@@ -43,20 +44,27 @@ module _ (image : List ℕ) (size : ℕ) (o : Over image size) where
       let m = over-measured image size o in
       omega (arith, o .has-size, m .whole, m .first-bitmap, m .bits-enough)
 
-  -- the blocks up to k have their bits in the run, which begins in the bitmap's byte `first`
-  pub run-alike : (byte first at end to k : ℕ) → at ≡ end * 64 → end ≡ firstBitmap size → Run image byte (at + first) (at + (end - 1) / 8) to
-      → first * 8 < k → k ≤ (to - at) * 8 + 1 → Alike image byte (first * 8 + 1) k
-  run-alike byte first at end to k e f run lo hi =
+  -- the blocks from the bitmap's byte `first` up to k, whose bit begins the byte where the run ends
+  pub run-alike : (byte first at end to k : ℕ) → at ≡ end * 64 → end ≡ firstBitmap size → Ended image byte (at + first) (at + (end - 1) / 8) to
+      → k ≡ (to - at) * 8 + 1 → Alike image byte (first * 8 + 1) k
+  unfolding bitByte
+  run-alike byte first at end to k e f run here =
       let long : end ≡ firstBitmap (length image) = f ∙ ap firstBitmap (sym (o .has-size)) in
       let some-block : 1 ≤ end = omega (arith, over-measured image size o .first-bitmap) in
+      let low = run .run .low in
+      let high = run .run .high in
       record {
         low = omega arith;
-        high = omega (arith, run .low, run .high);
-        alike = λ j l h.
-            bitmap-byte image (bitByte j)
-            ∙ ap (λ (n : ℕ). getD image (n + bitByte j) 0) (sym (e ∙ ap (λ (n : ℕ). n * 64) long))
-            ∙ run .alike (at + bitByte j) (unfold bitByte in omega arith) (unfold bitByte in omega (arith, run .low));
+        high = omega arith;
+        begins = omega arith;
+        alike = λ j l h. byte-at j long ∙ run .run .alike (at + bitByte j) (omega arith) (omega arith);
+        stops = λ h q.
+            let i : to ≡ at + bitByte k = omega arith in
+            run .stops (omega arith) (ap (λ (n : ℕ). getD image n 0) i ∙ sym (byte-at k long) ∙ q);
       }
+    where
+      byte-at : (j : ℕ) → end ≡ firstBitmap (length image) → getD (bitmapOf image) (bitByte j) 0 ≡ getD image (at + bitByte j) 0
+      byte-at j long = bitmap-byte image (bitByte j) ∙ ap (λ (n : ℕ). getD image (n + bitByte j) 0) (sym (e ∙ ap (λ (n : ℕ). n * 64) long))
 
   module _ (end : ℕ) (e : end ≡ firstBitmap size) where
     below-end : (byte from to : ℕ) → Alike image byte from to → to ≤ end
@@ -66,18 +74,38 @@ module _ (image : List ℕ) (size : ℕ) (o : Over image size) where
     pub lowest-past : (k : ℕ) → Alike image 0 1 k → lowestFree image ≡ lowest (λ j. not (allocated image j)) k (end - k)
     lowest-past k a =
         lowest-start image size o end e
-        ∙ lowest-pass (λ j. not (allocated image j)) end 1 k (a .low) (below-end 0 1 k a)
-        (λ j l h. ap not (zero-allocated image j (a .alike j l h)))
-
-    pub any-front : (from mid : ℕ) → anyOf (allocated image) (numbersFrom from (mid - from)) ≡ true → from ≤ mid → mid ≤ end
-        → anyOf (allocated image) (numbersFrom from (end - from)) ≡ true
-    any-front from mid q low high = any-parts (allocated image) end from mid low high ∙ rw q
+        ∙ lowest-pass (λ j. not (allocated image j)) end 1 k (λ j l h. ap not (zero-allocated image j (a .alike j l h))) (a .low) (below-end 0 1 k a)
 
     -- bytes of FF have no allocated block
     pub any-past : (from mid k : ℕ) → Alike image 255 mid k → anyOf (allocated image) (numbersFrom from (mid - from)) ≡ false → from ≤ mid
         → anyOf (allocated image) (numbersFrom from (end - from)) ≡ anyOf (allocated image) (numbersFrom k (end - k))
     any-past from mid k a q low =
         let high = below-end 255 mid k a in
-        any-parts (allocated image) end from mid low (omega (arith, a .low))
-        ∙ ap (λ (t : Bool). t || anyOf (allocated image) (numbersFrom mid (end - mid))) q
-        ∙ any-pass (allocated image) end mid k (a .low) high (λ j l h. ones-free image j (a .alike j l h))
+        any-rest (allocated image) end from mid q low (omega (arith, a .low))
+        ∙ any-pass (allocated image) end mid k (λ j l h. ones-free image j (a .alike j l h)) (a .low) high
+
+    -- a byte that has no ignored bit and is not FF has an allocated block
+    pub any-stopped : ((i : ℕ) → getD image i 0 < 256) → (from k : ℕ) → 1 ≤ from → Alike image 255 from k → k + 8 ≤ end
+        → anyOf (allocated image) (numbersFrom k (end - k)) ≡ true
+    unfolding bitByte
+    any-stopped bytes from k l a h =
+        let one : 1 ≤ k = omega (arith, a .low) in
+        let inside : InByte size k (k + 8) = record { low = one; rising = omega arith; high = omega arith; one-byte = omega (arith, a .begins) } in
+        let eight : 8 ≡ k + 8 - k = omega arith in
+        any-front (allocated image) end k (k + 8)
+        (sym (field-is image size o k (k + 8) inside (firstBitmap size * 64) x (2 ^ 8) refl refl (ap (λ (n : ℕ). 2 ^ n) eight)) ∙ ap not (ne-eqb (x / 2 ^ low % 256) 255 other))
+        (omega arith) h
+      where
+        x : ℕ
+        x = getD image (firstBitmap size * 64 + (k - 1) / 8) 0
+
+        low : ℕ
+        low = 8 - (k - 1) % 8 - (k + 8 - k)
+
+        other : x / 2 ^ low % 256 ≡ 255 → ⊥
+        other q =
+            let z : low ≡ 0 = omega arith in
+            let r : x / 1 % 256 ≡ 255 = ap (λ (n : ℕ). x / 2 ^ n % 256) (sym z) ∙ q in
+            let s : x ≡ 255 = omega (arith, bytes (firstBitmap size * 64 + (k - 1) / 8)) in
+            a .stops (omega (arith, ap firstBitmap (o .has-size)))
+            (bitmap-byte image (bitByte k) ∙ ap (λ (n : ℕ). getD image (firstBitmap n * 64 + (k - 1) / 8) 0) (o .has-size) ∙ s)

@@ -1,4 +1,5 @@
 pub mod BitReads
+pub mod FieldLaws
 pub mod RunLaws
 pub mod RangeLaws
 pub mod AlikeLaws

@@ -1,7 +1,7 @@
 -- A part of a range that a search has gone through. Assumes nothing.
 use Prim.Native.Nat.{ℕ, zero, suc, _+_, _-_, _≤_, _<_}
 use mathlib.Core.Path.{_≡_, sym, ap, _∙_}
-use mathlib.Core.Bool.{Bool, false, _||_, or-assoc}
+use mathlib.Core.Bool.{Bool, true, false, _||_, or-assoc}
 use native.Mathlib.Omega.{arith}
 use Rattle.words.specs.Lists.{anyOf, numbersFrom, isSome}
 use Rattle.words.specs.Search.{lowest}
@@ -29,21 +29,29 @@ module _ (p : ℕ → Bool) (end : ℕ) where
       ∙ pass-count n (k + 1) (omega arith) (λ j a b. none j (omega arith) (omega arith))
       ∙ ap (λ (j : ℕ). lowest p j (end - j)) e
 
-  module _ (k mid : ℕ) (low : k ≤ mid) (high : mid ≤ end) where
+  module _ (k mid : ℕ) where
     -- none of the numbers up to `mid` passes the test, so the search may go on from there
-    pub lowest-pass : ((j : ℕ) → k ≤ j → j < mid → p j ≡ false) → lowest p k (end - k) ≡ lowest p mid (end - mid)
-    lowest-pass none =
+    pub lowest-pass : ((j : ℕ) → k ≤ j → j < mid → p j ≡ false) → k ≤ mid → mid ≤ end → lowest p k (end - k) ≡ lowest p mid (end - mid)
+    lowest-pass none low high =
         let e : k + (mid - k) ≡ mid = omega arith in
         pass-count (mid - k) k (omega arith) (λ j a b. none j a (omega arith)) ∙ ap (λ (j : ℕ). lowest p j (end - j)) e
 
-    pub any-pass : ((j : ℕ) → k ≤ j → j < mid → p j ≡ false) → anyOf p (numbersFrom k (end - k)) ≡ anyOf p (numbersFrom mid (end - mid))
-    any-pass none = any-lowest p k (end - k) ∙ ap isSome (lowest-pass none) ∙ sym (any-lowest p mid (end - mid))
+    pub any-pass : ((j : ℕ) → k ≤ j → j < mid → p j ≡ false) → k ≤ mid → mid ≤ end
+        → anyOf p (numbersFrom k (end - k)) ≡ anyOf p (numbersFrom mid (end - mid))
+    any-pass none low high = any-lowest p k (end - k) ∙ ap isSome (lowest-pass none low high) ∙ sym (any-lowest p mid (end - mid))
 
-    -- a range is its two parts
-    pub any-parts : anyOf p (numbersFrom k (end - k)) ≡ (anyOf p (numbersFrom k (mid - k)) || anyOf p (numbersFrom mid (end - mid)))
-    any-parts =
+    any-parts : k ≤ mid → mid ≤ end → anyOf p (numbersFrom k (end - k)) ≡ (anyOf p (numbersFrom k (mid - k)) || anyOf p (numbersFrom mid (end - mid)))
+    any-parts low high =
         let e : end - k ≡ (mid - k) + (end - mid) = omega arith in
         let f : k + (mid - k) ≡ mid = omega arith in
         ap (λ (n : ℕ). anyOf p (numbersFrom k n)) e
         ∙ any-split p (mid - k) (end - mid) k
         ∙ ap (λ (j : ℕ). anyOf p (numbersFrom k (mid - k)) || anyOf p (numbersFrom j (end - mid))) f
+
+    -- the numbers up to `mid` are asked first, and then the others
+    pub any-front : anyOf p (numbersFrom k (mid - k)) ≡ true → k ≤ mid → mid ≤ end → anyOf p (numbersFrom k (end - k)) ≡ true
+    any-front q low high = any-parts low high ∙ rw q
+
+    pub any-rest : anyOf p (numbersFrom k (mid - k)) ≡ false → k ≤ mid → mid ≤ end
+        → anyOf p (numbersFrom k (end - k)) ≡ anyOf p (numbersFrom mid (end - mid))
+    any-rest q low high = any-parts low high ∙ rw q

@@ -14,7 +14,7 @@ module _ (s : List ℕ) (byte from end : ℕ) where
   run-none h = record { low = omega arith; high = h; alike = λ i a b. absurd (omega arith) }
 
   -- a run and the run behind it
-  pub run-join : (mid to : ℕ) → Run s byte from end mid → Run s byte mid end to → Run s byte from end to
+  run-join : (mid to : ℕ) → Run s byte from end mid → Run s byte mid end to → Run s byte from end to
   run-join mid to a b = record { low = omega (arith, a .low, b .low); high = b .high; alike = λ i l h. go i l h (decLe mid i) }
     where
       go : (i : ℕ) → from ≤ i → i < to → Dec (mid ≤ i) → getD s i 0 ≡ byte
@@ -22,7 +22,7 @@ module _ (s : List ℕ) (byte from end : ℕ) where
       go i l h (no d) = a .alike i l (omega (arith, d))
 
   -- a run and `width` bytes more
-  pub run-more : (mid width : ℕ) → Run s byte from end mid → mid + width ≤ end → ((i : ℕ) → i < width → getD s (mid + i) 0 ≡ byte)
+  run-more : (mid width : ℕ) → Run s byte from end mid → mid + width ≤ end → ((i : ℕ) → i < width → getD s (mid + i) 0 ≡ byte)
       → Run s byte from end (mid + width)
   run-more mid width a h more = run-join mid (mid + width) a (record { low = omega arith; high = h; alike = at })
     where
@@ -34,6 +34,6 @@ module _ (s : List ℕ) (byte from end : ℕ) where
   pub run-byte : (mid : ℕ) → Run s byte from end mid → mid < end → getD s mid 0 ≡ byte → Run s byte from end (mid + 1)
   run-byte mid a h e = run-more mid 1 a (omega arith) (λ i l. let z : mid + i ≡ mid = omega arith in ap (λ (n : ℕ). getD s n 0) z ∙ e)
 
-  pub run-word : (mid w : ℕ) → Run s byte from end mid → 8 ≤ end - mid → byte < 256 → Word 8 s mid w → w ≡ repeated byte 8
+  pub run-word : (mid w : ℕ) → Run s byte from end mid → mid + 8 ≤ end → byte < 256 → Word 8 s mid w → w ≡ repeated byte 8
       → Run s byte from end (mid + 8)
-  run-word mid w a h small known e = run-more mid 8 a (omega (arith, a .high)) (word-repeated byte 8 small known e)
+  run-word mid w a h small known e = run-more mid 8 a h (word-repeated byte 8 small known e)

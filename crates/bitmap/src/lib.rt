@@ -3,12 +3,13 @@ mod runs;
 
 use measures::Measures;
 use runs::run_end;
+use words::wide;
 ghost use mathlib.Core.Path.{_≡_};
 ghost use Prim.Native.Nat.{_+_, _*_, _-_, _/_, _≤_};
 ghost use Rattle.words.specs.Lists.{anyOf, numbersFrom};
 ghost use Rattle.flash_model.specs.Measures.{firstBitmap, capacity};
 ghost use Rattle.flash_model.specs.Partition.{allocated, lowestFree};
-ghost use Rattle.bitmap.specs.Over.{Over, asFound};
+ghost use Rattle.bitmap.specs.Over.{Over, InByte, asFound};
 ghost use Rattle.bitmap.specs.Run.{Alike};
 
 // A physical block, or none.
@@ -58,24 +59,23 @@ pub fn lowest_free(image: &[u8], m: Measures) -> Found
     Found::Nothing
 }
 
-// Whether some user block from `from` up to `to` is allocated.
-fn any_allocated(image: &[u8], m: Measures, from: usize, to: usize) -> bool
+// Whether some user block from `from` up to `to` is allocated, where one byte has all their bits: these are free where the
+// number that they make is the largest.
+fn any_in_byte(image: &[u8], m: Measures, from: usize, to: usize) -> bool
     requires { ⌜ Over (now image) (m .size) ⌝ }
-    requires { ⌜ (1 ≤ from) × (to ≤ firstBitmap (m .size)) ⌝ }
+    requires { ⌜ InByte (m .size) from to ⌝ }
     ensures { λ r. ⌜ r ≡ anyOf (allocated (now (image .entry))) (numbersFrom from (to - from)) ⌝ }
 {
-    let mut k = from;
-    while k < to {
-        if is_allocated(image, m, k) {
-            return true;
-        }
-        k += 1;
-    }
-    false
+    let first = m.first_bitmap();
+    let at = m.start(first) + (from - 1) / 8;
+    let count = to - from;
+    let place = 8 - (from - 1) % 8 - count;
+    let weight = 1usize << count;
+    (wide(image[at]) >> place) % weight != weight - 1
 }
 
-// Whether some user block from `from` on is allocated. Bytes of FF have none, so the bits are tested up to the next byte's
-// beginning, and from the first other byte on.
+// Whether some user block from `from` on is allocated: one in the rest of its byte, one in a byte behind it that is not FF, or
+// one in the last byte, which has ignored bits.
 pub fn allocated_from(image: &[u8], m: Measures, from: usize) -> bool
     requires { ⌜ Over (now image) (m .size) ⌝ }
     requires { ⌜ 1 ≤ from ⌝ }
@@ -86,11 +86,16 @@ pub fn allocated_from(image: &[u8], m: Measures, from: usize) -> bool
         return false;
     }
     let next = (from + 6) / 8;
-    if (end - 1) / 8 <= next {
-        return any_allocated(image, m, from, end);
+    if (end - 1) / 8 < next {
+        return any_in_byte(image, m, from, end);
     }
-    if any_allocated(image, m, from, next * 8 + 1) {
+    if any_in_byte(image, m, from, next * 8 + 1) {
         return true;
     }
-    any_allocated(image, m, alike_end(image, m, next, 255), end)
+    let k = alike_end(image, m, next, 255);
+    // The byte is not FF, and has no ignored bit.
+    if k + 8 <= end {
+        return true;
+    }
+    any_in_byte(image, m, k, end)
 }

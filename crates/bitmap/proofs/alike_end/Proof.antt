@@ -49,7 +49,7 @@ returns c =
     let f = c .before .before in
     let a = f .before .before in
     run-alike (a .args .image .now) (a .args .m .size) (a .pre .0) (a .args .byte) (a .args .first) (c .before .start .result) (f .first-bitmap .result) (c .run-end .result) _
-    (c .before .start .ensures) (f .first-bitmap .ensures) (c .run-end .ensures) (omega arith) (omega arith)
+    (c .before .start .ensures) (f .first-bitmap .ensures) (c .run-end .ensures) (omega arith)
 
 pub alike-end-spec : {M : Type 1} → statement M
 alike-end-spec =

@@ -1,6 +1,7 @@
 -- `bitmap::runs::run_end` meets its contract. The loop's invariant: the run goes as far as the loop has come.
 -- Assumes nothing.
 use Prim.Native.Nat.{_-_}
+use native.Mathlib.Omega.{arith}
 use Rattle.bitmap.specs.Run.{Run}
 use Rattle.bitmap.proofs.RunLaws.{run-byte}
 use borrow.Author.Needs.{needs}
@@ -23,7 +24,7 @@ shared-slice-read-if1 : tie.Need-shared-slice-read-if1 Inv-loop μ-loop
 shared-slice-read-if1 c = search needs
 
 returns : tie.Need-returns Inv-loop μ-loop
-returns c = search needs
+returns c = record { run = c .before .before .before .loop .inv; stops = λ h. c .if1 .taken }
 
 add-i : tie.Need-add-i Inv-loop μ-loop
 add-i c = search needs
@@ -37,7 +38,7 @@ loop-again c =
     run-byte _ _ _ _ _ (t .before .loop .inv) (t .loop-test .taken) (c .if1 .left)
 
 returns-2 : tie.Need-returns-2 Inv-loop μ-loop
-returns-2 c = search needs
+returns-2 c = record { run = c .before .loop .inv; stops = λ h. absurd (omega (arith, h, c .loop-test .left)) }
 
 pub run-end-spec : {M : Type 1} → statement M
 run-end-spec =

@@ -1,6 +1,7 @@
--- `bitmap::runs::words_end` meets its contract. The loop's invariant: the run goes as far as the loop has come.
+-- `bitmap::runs::words_end` meets its contract. The loop's invariant: the run goes as far as the loop has come, and
+-- whole words are left.
 -- Assumes nothing.
-use Prim.Native.Nat.{_-_}
+use Prim.Native.Nat.{_+_, _-_, _%_, _≤_}
 use mathlib.Core.Path.{_≡_}
 use native.Mathlib.Omega.{arith}
 use Rattle.loads.specs.BigEndian.{repeated}
@@ -11,25 +12,28 @@ use Rattle.bitmap.proofs.runs.words_end.Statement.{statement}
 use Rattle.bitmap.proofs.runs.words_end.Tie as tie
 
 abbrev Inv-loop : tie.InvT-loop
-Inv-loop s at end byte word i₀ i = Run s byte at end i
+Inv-loop s at end byte word last i₀ i = Run s byte at end i × (i ≤ last) × ((last - i) % 8 ≡ 0)
 
 abbrev μ-loop : tie.MeasureT-loop
-μ-loop s at end byte word i₀ i = end - i
+μ-loop s at end byte word last i₀ i = last - i
 
 mul-word : tie.Need-mul-word Inv-loop μ-loop
 mul-word c = search needs
 
-loop-holds : tie.Need-loop-holds Inv-loop μ-loop
-loop-holds c = run-none _ _ _ _ (c .before .pre .0)
+sub-last : tie.Need-sub-last Inv-loop μ-loop
+sub-last c = search needs
 
-sub-loop : tie.Need-sub-loop Inv-loop μ-loop
-sub-loop c = search needs
+sub-last-2 : tie.Need-sub-last-2 Inv-loop μ-loop
+sub-last-2 c = search needs
+
+loop-holds : tie.Need-loop-holds Inv-loop μ-loop
+loop-holds c = (run-none _ _ _ _ (c .before .pre .0), omega arith, omega arith)
 
 word8-requires : tie.Need-word8-requires Inv-loop μ-loop
 word8-requires c κs = search needs
 
 returns : tie.Need-returns Inv-loop μ-loop
-returns c = search needs
+returns c = c .before .before .before .loop .inv .0
 
 add-i : tie.Need-add-i Inv-loop μ-loop
 add-i c = search needs
@@ -42,10 +46,14 @@ loop-again c =
     let t = c .before .before in
     let l = t .before in
     let whole : c .before .word8 .result ≡ repeated (l .before .before .args .byte) 8 = omega (arith, c .if1 .left) in
-    run-word _ _ _ _ _ (c .before .word8 .result) (l .loop .inv) (t .loop-test .taken) (omega arith) (c .before .word8 .ensures) whole
+    let room : l .loop .i + 8 ≤ l .before .before .args .end = omega arith in (
+      run-word _ _ _ _ _ (c .before .word8 .result) (l .loop .inv .0) room (omega arith) (c .before .word8 .ensures) whole,
+      omega arith,
+      omega arith,
+    )
 
 returns-2 : tie.Need-returns-2 Inv-loop μ-loop
-returns-2 c = search needs
+returns-2 c = c .before .loop .inv .0
 
 pub words-end-spec : {M : Type 1} → statement M
 words-end-spec =
@@ -54,8 +62,9 @@ words-end-spec =
     Inv-loop
     μ-loop
     mul-word
+    sub-last
+    sub-last-2
     loop-holds
-    sub-loop
     word8-requires
     returns
     add-i
