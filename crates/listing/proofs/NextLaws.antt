@@ -1,15 +1,16 @@
 -- The lowest live number, as blocks are passed one after the other. Assumes nothing.
 use Prim.Native.Nat.{ℕ, _+_, _≤_, _<_}
 use mathlib.Core.Path.{_≡_, refl, sym, ap, subst, _∙_}
-use mathlib.Core.Bool.{Bool, true, false, cond, _&&_, and-false, true≢false}
+use mathlib.Core.Bool.{Bool, true, false, cond, _&&_, _||_, and-false, true≢false}
 use mathlib.Core.List.{List}
 use mathlib.Core.Option.{Option, none, some, Option·map}
-use mathlib.Core.Logic.{_≢_}
+use mathlib.Core.Logic.{_≢_, _⊎_, inl, inr}
 use native.Mathlib.Omega.{arith}
 use native.Mathlib.Decide.{ℕ-discrete}
 use lib.Dec.{eqb, ltb, leb}
-use borrow.Author.Tests.{ne-eqb, eq-eqb, ltb-true, ltb-false, leb-true, leb-false, lt-ltb}
+use borrow.Author.Tests.{ne-eqb, eq-eqb, ltb-true, ltb-false, leb-true, leb-false, lt-ltb, le-ltb, lt-leb, le-leb}
 use Rattle.words.specs.Search.{highest}
+use Rattle.words.proofs.Bools.{or-true-either, or-false-left, or-false-right}
 use Rattle.words.proofs.SearchLaws.{highest-nothing, highest-none}
 use Rattle.flash_model.specs.Measures.{capacity, legalNumber}
 use Rattle.flash_model.specs.UserBlock.{number, payload, rightChecksum}
@@ -20,6 +21,29 @@ use Rattle.flash_model.proofs.MeaningLaws.{next-live, live-none}
 use Rattle.partition.specs.Usable.{Usable}
 use Rattle.listing.specs.Listing.{lowered, asNext}
 use Rattle.partition.proofs.UsableLaws.{usable-measured, holder-some}
+
+-- ---- one block
+
+module _ (start best n : ℕ) (block : List ℕ) (e : number block ≡ n) where
+  -- its number is below the start, or no lower than the best
+  pub lowered-passed : (ltb n start || leb best n) ≡ true → best ≡ lowered start block best
+  unfolding lowered
+  lowered-passed t = go (or-true-either (ltb n start) (leb best n) t)
+    where
+      go : (ltb n start ≡ true) ⊎ (leb best n ≡ true) → best ≡ lowered start block best
+      go (inl b) = rw (e, lt-leb start n (ltb-true n start b))
+      go (inr b) = rw (e, le-ltb n best (leb-true best n b), and-false)
+
+  pub lowered-taken : (ltb n start || leb best n) ≡ false → rightChecksum block ≡ true → n ≡ lowered start block best
+  unfolding lowered
+  lowered-taken t r =
+      rw (e, le-leb start n (ltb-false n start (or-false-left (ltb n start) (leb best n) t)), lt-ltb n best (leb-false best n (or-false-right (ltb n start) (leb best n) t)), r)
+
+  pub lowered-wrong : rightChecksum block ≡ false → best ≡ lowered start block best
+  unfolding lowered
+  lowered-wrong r = rw (r, and-false, and-false)
+
+-- ---- all blocks passed so far
 
 -- some block below k matches the number
 pub record Seen (image : List ℕ) (k n : ℕ) : Type 0 where

@@ -60,16 +60,14 @@ pub fn list_places(image: &[u8], m: Measures, used: usize, area: &mut [u16]) -> 
 }
 
 // The lower of `best` and the number of the block that begins this part, if that is not below the start and the checksum is
-// right, which is worked only where the number would be the new best.
+// right, which is worked only where the number would be the new best. One test decides that: numbers stand in any order, and of
+// two tests one would often go the way that the processor did not expect.
 fn lower(part: &[u8], start: usize, best: usize) -> usize
     requires { ⌜ 64 ≤ length (now part) ⌝ }
     ensures { λ r. ⌜ r ≡ lowered start (take 64 (now (part .entry))) best ⌝ }
 {
     let number = word(part, 0);
-    if number < start {
-        return best;
-    }
-    if best <= number {
+    if (number < start) | (best <= number) {
         return best;
     }
     if right_checksum(part) {
