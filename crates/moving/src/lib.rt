@@ -14,11 +14,14 @@ ghost use Rattle.flash_model.specs.Update as model;
 ghost use Rattle.bitmap.specs.Over.{Over};
 ghost use Rattle.moving.specs.Moving.{Moved, AllMoved, IsBlank};
 
-// Block `from` copied over block `to`, which is not above it.
+// Block `from` copied over block `to`, which is not above it. Where no lower block was dropped it stands there already.
 fn move_block(image: &mut [u8], from: usize, to: usize)
     requires { ⌜ (to ≤ from) × (from * 64 + 64 ≤ length (now image)) ⌝ }
     ensures { λ _. ⌜ now (image .exit) ≡ model.withBlock (now (image .entry)) to (blockAt (now (image .entry)) from) ⌝ }
 {
+    if from == to {
+        return;
+    }
     let a = from * BLOCK;
     let b = to * BLOCK;
     let mut i = 0;

@@ -1,14 +1,14 @@
 -- `moving::move_block` meets its contract. The loop's invariant: the first i bytes of the block are copied, and all else is as it was.
 -- Assumes nothing.
 use Prim.Native.Nat.{_-_, _*_, _≤_}
-use mathlib.Core.Path.{_≡_, refl}
+use mathlib.Core.Path.{_≡_, refl, sym}
 use mathlib.Core.List.{[]}
 use native.Mathlib.Omega.{arith}
 use lib.ListN.{length, drop, length-set}
 use lib.Seq.{paste, paste-zero}
 use Rattle.flash_model.specs.Partition.{blockAt}
 use Rattle.flash_model.specs.Update.{withBlock}
-use Rattle.moving.proofs.MoveLaws.{move-step}
+use Rattle.moving.proofs.MoveLaws.{block-itself, move-step}
 use borrow.Author.Needs.{needs}
 use Rattle.moving.proofs.move_block.Statement.{statement}
 use Rattle.moving.proofs.move_block.Tie as tie
@@ -19,6 +19,11 @@ Inv-loop image₀ from to a b i₀ image i = (i ≤ 64) × (length image ≡ len
 abbrev μ-loop : tie.MeasureT-loop
 μ-loop image₀ from to a b i₀ image i = 64 - i
 
+returns : tie.Need-returns Inv-loop μ-loop
+returns c =
+    let a = c .before .args in
+    rw (c .if1 .taken) (sym (block-itself (a .image .now) (a .to)))
+
 mul-a : tie.Need-mul-a Inv-loop μ-loop
 mul-a c = search needs
 
@@ -26,7 +31,7 @@ mul-b : tie.Need-mul-b Inv-loop μ-loop
 mul-b c = search needs
 
 loop-holds : tie.Need-loop-holds Inv-loop μ-loop
-loop-holds c = (search needs, refl, paste-zero _ (c .args .to * 64) [])
+loop-holds c = (search needs, refl, paste-zero _ (c .before .args .to * 64) [])
 
 add-image : tie.Need-add-image Inv-loop μ-loop
 add-image c = search needs
@@ -49,15 +54,15 @@ loop-less c = search needs
 loop-again : tie.Need-loop-again Inv-loop μ-loop
 loop-again c =
     let at = c .before .before in
-    let a = at .before .args in
+    let a = at .before .before .args in
     (omega arith, simp length-set (at .loop .inv .1), rw (at .loop .inv .2) (move-step (a .image .now) (a .from * 64) (a .to * 64) (at .loop .i) (omega arith) (omega arith)))
 
 same-length : tie.Need-same-length Inv-loop μ-loop
 same-length c = search needs
 
-returns : tie.Need-returns Inv-loop μ-loop
+returns-2 : tie.Need-returns-2 Inv-loop μ-loop
 unfolding blockAt withBlock
-returns c =
+returns-2 c =
     let at = c .before in
     let e : at .loop .i ≡ 64 = omega arith in
     rw e at (at .loop .inv .2)
@@ -68,6 +73,7 @@ move-block-spec =
     (tie.spec
     Inv-loop
     μ-loop
+    returns
     mul-a
     mul-b
     loop-holds
@@ -79,4 +85,4 @@ move-block-spec =
     loop-less
     loop-again
     same-length
-    returns)
+    returns-2)
