@@ -27,7 +27,7 @@ pub fn checksum(bytes: &[u8]) -> u16 {
 /// The checksum of what stands before it in a block.
 #[inline(always)]
 pub(crate) fn of_data(data: &[u8; DATA]) -> u16 {
-    let word = |at| u64::from_le_bytes(std::array::from_fn(|i| data[at + i]));
+    let word = |at| u64::from_le_bytes(*data[at..].first_chunk().unwrap());
     let (mut a, mut b, mut c, mut d) = (word(0) ^ START, word(8), word(16), word(24));
     // By P^16 = x^256 + x^192 + x^80 + 1. The last word is of six bytes and two zeros.
     for next in [word(32), word(40), word(48), word(54) >> 16] {

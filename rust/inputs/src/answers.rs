@@ -1,10 +1,10 @@
-//! The independent implementation's answers as the C interface gives them.
+//! The plain implementations' answers as the C interface gives them.
 
 use galtuyeg::raw::{self, CardVerdict};
 use independent::card::{Entry, Place, Refusal};
 use independent::flash;
 
-/// An answer of the independent implementation.
+/// An answer of the plain implementations.
 pub trait Answer {
     /// What the C interface answers to the same call.
     type Raw: PartialEq;

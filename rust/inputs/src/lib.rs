@@ -1,5 +1,5 @@
 //! What the comparison and the benchmark share: partitions and cards made byte by byte, random numbers
-//! that a seed fixes, and the independent implementation's answers as the C interface gives them.
+//! that a seed fixes, and the plain implementations' answers as the C interface gives them.
 
 pub mod answers;
 pub mod card;

@@ -178,9 +178,10 @@ impl<'a> Directory<'a> {
         if games == 0 {
             return Ok(());
         }
-        let games = (0..self.count).filter(|&at| self.heads[at] as u8 == GAME);
-        for (before, at) in games.enumerate() {
-            if before > 0 || !self.file(at).is_in_one_piece(table) {
+        // Two of them in one piece would share block 0, so a second one is refused as well.
+        for at in 0..self.count {
+            let file = self.file(at);
+            if file.kind() == GAME && !file.is_in_one_piece(table) {
                 return Err(of_entry(WRONG_GAME, self.entry(at)));
             }
         }
@@ -188,6 +189,7 @@ impl<'a> Directory<'a> {
     }
 }
 
+#[inline(always)]
 fn part<const N: usize>(record: &Record, at: usize) -> [u8; N] {
-    std::array::from_fn(|i| record[at + i])
+    *record[at..].first_chunk().unwrap()
 }

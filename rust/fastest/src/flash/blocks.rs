@@ -6,8 +6,9 @@ pub(super) const BLOCK: usize = 64;
 pub(super) const PAGE: usize = 60;
 /// No partition has as many numbers.
 const NUMBERS: usize = 1024;
-/// Blocks looked at between two turns of a search.
-const GROUP: usize = 8;
+
+/// Blocks whose numbers are looked at together.
+const GROUP: usize = 4;
 
 pub(super) type Block = [u8; BLOCK];
 
@@ -33,22 +34,16 @@ pub(super) fn sealed(number: u16, page: &[u8; PAGE]) -> Block {
 /// The contents of a number: the page of its highest right block.
 pub(super) fn find(allocated: &[Block], number: u16) -> Option<&[u8; PAGE]> {
     let (rest, groups) = allocated.as_rchunks::<GROUP>();
-    groups.iter().rev().find_map(|group| find_in(group, number)).or_else(|| find_in(rest, number))
+    let with_it = |group: &&[Block; GROUP]| group.iter().any(|block| number_of(block) == number);
+    let mut pages = groups.iter().rev().filter(with_it).filter_map(|group| find_in(group, number));
+    pages.next().or_else(|| find_in(rest, number))
 }
 
-#[inline(always)]
-fn find_in(blocks: &[Block], number: u16) -> Option<&[u8; PAGE]> {
-    blocks.iter().rev().find_map(|block| match number_of(block) == number {
-        true => page_if_right(block),
-        false => None,
-    })
-}
-
-/// Apart, so that a search is a short loop.
+/// Apart, so that the search for a group is a short loop.
 #[inline(never)]
-fn page_if_right(block: &Block) -> Option<&[u8; PAGE]> {
-    let [_, _, page @ .., _, _] = block;
-    is_right(block).then_some(page)
+fn find_in(blocks: &[Block], number: u16) -> Option<&[u8; PAGE]> {
+    let found = blocks.iter().rev().find(|block| number_of(block) == number && is_right(block));
+    found.map(|[_, _, page @ .., _, _]| page)
 }
 
 /// Calls `found` with the index of each block that holds the contents of a number, falling. The numbers
