@@ -1,6 +1,7 @@
 // The directory of a card: its entries one by one, searches by use and by name, and refusals 26 and 30.
 pub mod entry;
 mod games;
+pub mod listing;
 pub mod search;
 
 use crate::entry::entry_at;
