@@ -7,15 +7,14 @@ use borrow.Author.Tests.{eqb-true, eq-eqb, not-false}
 use lib.ListN.{length}
 use Rattle.verdicts.specs.declared.Place.the-variants.{Whole, Entry}
 use Rattle.verdicts.specs.declared.Verdict.{Verdict}
-use Rattle.verdicts.specs.Rows.{accepted, rowOver, unlessRefused}
+use Rattle.verdicts.specs.Rows.{accepted, unlessRefused}
 use Rattle.verdicts.proofs.RowLaws.{refused-first, not-refused, rows-joined}
 use Rattle.card_model.specs.Layout.{cardLength, rootOf, tableOf, directoryOf}
 use Rattle.card_model.specs.Entries.{wrongEntry, entryAt, entryRow, nameRow}
 use Rattle.card_model.specs.Files.{chainRow, sharingRow, gameRow}
 use Rattle.card_model.specs.Calls.{lengthRow, tableRows, directoryRows, verdictOf}
 use Rattle.card_model.proofs.SoundLaws.{unless-accepts, at-accepts, below-accepts}
-use Rattle.card_directory.specs.declared.Rule.the-variants.{Fields, Game}
-use Rattle.card_directory.specs.Rules.{GoodChains, firstBroken}
+use Rattle.card_directory.specs.Rules.{GoodChains}
 use Rattle.card_chains.specs.Marks.{chainRows}
 
 passed : (r v : Verdict) → r ≡ v → r .number ≡ 0 → accepted v ≡ true
@@ -44,23 +43,19 @@ module _ (table : List ℕ) (directory : List (List ℕ)) where
   rows = directoryRows table directory
 
   -- f is what was found of row 26
-  module _ (f : Verdict) (ef : f ≡ rowOver 26 Entry (firstBroken Fields table directory 0)) where
-    is-fields : f ≡ entryRow directory
-    unfolding firstBroken entryRow
-    is-fields = ef
-
+  module _ (f : Verdict) (ef : f ≡ entryRow directory) where
     pub fields-refused : (f .number ≡ 0 → ⊥) → f ≡ rows
     unfolding directoryRows
-    fields-refused n = sym (refused-first (entryRow directory) _ f is-fields n)
+    fields-refused n = sym (refused-first (entryRow directory) _ f ef n)
 
     module _ (zf : f .number ≡ 0) where
       pub fields-right : (i : ℕ) → i < 208 → wrongEntry (entryAt directory i) ≡ false
       unfolding entryRow
-      fields-right = below-accepts 26 Entry _ 208 refl (passed f _ is-fields zf)
+      fields-right = below-accepts 26 Entry _ 208 refl (passed f _ ef zf)
 
       past-fields : rows ≡ unlessRefused (chainRows table directory) (unlessRefused (nameRow directory) (gameRow table directory))
       unfolding directoryRows
-      past-fields = not-refused (entryRow directory) _ f is-fields zf ∙ sym (rows-joined (chainRow table directory) (sharingRow table directory) _)
+      past-fields = not-refused (entryRow directory) _ f ef zf ∙ sym (rows-joined (chainRow table directory) (sharingRow table directory) _)
 
       -- c is what was found of rows 27 and 28
       module _ (c : Verdict) (ec : c ≡ chainRows table directory) where
@@ -84,6 +79,5 @@ module _ (table : List ℕ) (directory : List (List ℕ)) where
             names-refused n = sym (past-chains ∙ refused-first _ _ m em n)
 
             -- g is what was found of row 30
-            pub names-passed : m .number ≡ 0 → (g : Verdict) → g ≡ rowOver 30 Entry (firstBroken Game table directory 0) → g ≡ rows
-            unfolding firstBroken gameRow
+            pub names-passed : m .number ≡ 0 → (g : Verdict) → g ≡ gameRow table directory → g ≡ rows
             names-passed zm g eg = eg ∙ sym (past-chains ∙ not-refused _ _ m em zm)

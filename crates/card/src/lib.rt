@@ -5,9 +5,9 @@
 use card_chains::count_orphans;
 use card_chains::walk_files;
 use card_chains::walking::block_after;
-use card_directory::Rule;
 use card_directory::entry;
-use card_directory::row;
+use card_directory::games::game_row;
+use card_directory::listing::list_used;
 use card_directory::search::FoundEntry;
 use card_directory::search::find_named;
 use card_directory::search::first_used;
@@ -35,11 +35,12 @@ fn judge_files(card: &[u8], marks: &mut [u8; 200]) -> Verdict
     ensures { λ r. ⌜ r ≡ directoryRows (tableOf (now (card .entry))) (directoryOf (now (card .entry))) ⌝ }
     ensures { λ r. ⌜ (accepted r ≡ true → now (marks .exit) ≡ fileMarks (tableOf (now (card .entry))) (directoryOf (now (card .entry))) 208) ⌝ }
 {
-    let fields = row(card, Rule::Fields, 26);
-    if fields.number != 0 {
-        return fields;
+    let mut used = [0u8; 208];
+    let list = list_used(card, &mut used);
+    if list.verdict.number != 0 {
+        return list.verdict;
     }
-    let chains = walk_files(card, marks);
+    let chains = walk_files(card, &used, list.count, marks);
     if chains.number != 0 {
         return chains;
     }
@@ -47,7 +48,7 @@ fn judge_files(card: &[u8], marks: &mut [u8; 200]) -> Verdict
     if names.number != 0 {
         return names;
     }
-    row(card, Rule::Game, 30)
+    game_row(card, &used, list.count)
 }
 
 // Refusals 20 to 30.

@@ -1,6 +1,6 @@
 -- Laws of the marks: what is marked after some blocks were, and what the walk along an entry's file makes of the marks of the
 -- files before it. Assumes nothing.
-use Prim.Native.Nat.{ℕ, _+_, _-_, _≤_, _<_}
+use Prim.Native.Nat.{ℕ, suc, _+_, _-_, _≤_, _<_}
 use mathlib.Core.Path.{_≡_, refl, sym, ap, _∙_}
 use mathlib.Core.Bool.{Bool, true, false, not, cond, _&&_, _||_, or-false}
 use mathlib.Core.List.{List, [], _∷_, _++_}
@@ -21,7 +21,7 @@ use Rattle.card_model.specs.Entries.{isUsed, wrongEntry, entryAt}
 use Rattle.card_model.specs.Files.{chainOf, badChain, fileOf, filesBefore, sharesBlock, isOrphan, orphans}
 use Rattle.card_model.proofs.ChainLaws.{chain-below, chain-distinct}
 use Rattle.card_model.proofs.EntryLaws.{right-entry, file-chain, no-file, files-snoc}
-use Rattle.card_chains.specs.Marks.{noMarks, isMarked, markAll, metMark, fileMarks, outcome, answer, Walked, fileChain, isBroken, isShared}
+use Rattle.card_chains.specs.Marks.{noMarks, isMarked, markAll, metMark, fileMarks, outcome, answer, Walked, isBroken, isShared}
 
 -- ---- blocks that are marked one after the other
 
@@ -75,35 +75,22 @@ met-any (b ∷ bs) marks d a =
         let f = ne-eqb b x (λ q. eqb-false x b (or-false-left (eqb x b) (has b l) e) (sym q)) in
         (marked-set marks b x (a .0) ∙ rw f, others l (or-false-right (eqb x b) (has b l) e) (a .1))
 
--- ---- an entry's file
+-- ---- the file of a used entry
 
-module _ (table entry : List ℕ) where
-  chain-bad : badChain table entry ≡ not (isSome (fileChain table entry))
-  unfolding badChain fileChain
-  chain-bad = go (isUsed entry)
-    where
-      go : (t : Bool) → (t && not (isSome (chainOf table entry))) ≡ not (isSome (cond t (chainOf table entry) (some [])))
-      go true = refl
-      go false = refl
+module _ (table entry : List ℕ) (u : isUsed entry ≡ true) where
+  chain-bad : badChain table entry ≡ not (isSome (chainOf table entry))
+  unfolding badChain
+  chain-bad = rw u
 
   module _ (e : badChain table entry ≡ false) where
-    chain-file : fileChain table entry ≡ some (fileOf table entry)
-    unfolding fileChain chainOf
-    chain-file = go (isUsed entry) refl
-      where
-        go : (t : Bool) → isUsed entry ≡ t → cond t (chainOf table entry) (some []) ≡ some (fileOf table entry)
-        go true u = file-chain entry u table e
-        go false u = ap (λ (l : List ℕ). some l) (sym (no-file table entry u))
+    chain-file : chainOf table entry ≡ some (fileOf table entry)
+    unfolding chainOf
+    chain-file = file-chain entry u table e
 
     -- different user blocks
     file-blocks : wrongEntry entry ≡ false → Distinct (fileOf table entry) × All (λ b. b < 200) (fileOf table entry)
-    file-blocks r = go (isUsed entry) refl
-      where
-        go : (t : Bool) → isUsed entry ≡ t → Distinct (fileOf table entry) × All (λ b. b < 200) (fileOf table entry)
-        go true u =
-            let f = file-chain entry u table e in
-            (chain-distinct _ _ _ _ f, chain-below _ _ _ _ f (right-entry entry u r .0))
-        go false u = rw (no-file table entry u) (tt, tt)
+    unfolding chainOf
+    file-blocks r = (chain-distinct _ _ _ _ chain-file, chain-below _ _ _ _ chain-file (right-entry entry u r .0))
 
 answer-broken : (o : Option (List ℕ)) (marks : List ℕ) → isBroken (answer o marks false) ≡ not (isSome o)
 answer-broken none marks = refl
@@ -128,6 +115,23 @@ module _ (table : List ℕ) (directory : List (List ℕ)) where
   unfolding fileMarks
   marks-next i = rw (add-one i, files-snoc table directory i) (sym (mark-append (filesBefore table directory i) (fileOf table (entryAt directory i)) noMarks))
 
+  -- an unused entry has no file
+  pub marks-stay : (k : ℕ) → isUsed (entryAt directory k) ≡ false → fileMarks table directory (suc k) ≡ fileMarks table directory k
+  unfolding markAll
+  marks-stay k u =
+      let e : fileOf table (entryAt directory k) ≡ [] = no-file table (entryAt directory k) u in
+      ap (fileMarks table directory) (sym (add-one k)) ∙ sym (marks-next k) ∙ ap (λ (bs : List ℕ). markAll bs (fileMarks table directory k)) e
+
+  pub unused-shares : (k : ℕ) → isUsed (entryAt directory k) ≡ false → sharesBlock table directory k ≡ false
+  unfolding sharesBlock
+  unused-shares k u =
+      let e : fileOf table (entryAt directory k) ≡ [] = no-file table (entryAt directory k) u in
+      rw e
+
+  pub unused-bad : (k : ℕ) → isUsed (entryAt directory k) ≡ false → badChain table (entryAt directory k) ≡ false
+  unfolding badChain
+  unused-bad k u = rw u
+
   marks-length : (i : ℕ) → length (fileMarks table directory i) ≡ 200
   unfolding fileMarks noMarks
   marks-length i = mark-length (filesBefore table directory i) noMarks
@@ -137,14 +141,15 @@ module _ (table : List ℕ) (directory : List (List ℕ)) where
   files-marked i b h =
       mark-has (filesBefore table directory i) noMarks b h ∙ rw (getD-replicate {A = ℕ} 200 b 0 0 h, or-false)
 
-  module _ (i : ℕ) {found : ℕ} {marks marks′ : List ℕ} (m : marks ≡ fileMarks table directory i)
-      (w : Walked (fileChain table (entryAt directory i)) marks false found marks′) where
+  -- the walk along the file of entry i
+  module _ (i : ℕ) (u : isUsed (entryAt directory i) ≡ true) {found : ℕ} {marks marks′ : List ℕ} (m : marks ≡ fileMarks table directory i)
+      (w : Walked (chainOf table (entryAt directory i)) marks false found marks′) where
     pub walk-broken : isBroken found ≡ badChain table (entryAt directory i)
-    walk-broken = ap isBroken (w .answers) ∙ answer-broken (fileChain table (entryAt directory i)) marks ∙ sym (chain-bad table (entryAt directory i))
+    walk-broken = ap isBroken (w .answers) ∙ answer-broken (chainOf table (entryAt directory i)) marks ∙ sym (chain-bad table (entryAt directory i) u)
 
     module _ (sound : isBroken found ≡ false) where
-      there : fileChain table (entryAt directory i) ≡ some (fileOf table (entryAt directory i))
-      there = chain-file table (entryAt directory i) (sym walk-broken ∙ sound)
+      there : chainOf table (entryAt directory i) ≡ some (fileOf table (entryAt directory i))
+      there = chain-file table (entryAt directory i) u (sym walk-broken ∙ sound)
 
       pub walk-marks : marks′ ≡ fileMarks table directory (i + 1)
       walk-marks = w .marked _ there ∙ rw m (marks-next i)
@@ -154,7 +159,7 @@ module _ (table : List ℕ) (directory : List (List ℕ)) where
       walk-shares r =
           let file = fileOf table (entryAt directory i) in
           let before = fileMarks table directory i in
-          let f = file-blocks table (entryAt directory i) (sym walk-broken ∙ sound) r in
+          let f = file-blocks table (entryAt directory i) u (sym walk-broken ∙ sound) r in
           let below = all-mono (λ b. b < 200) (λ b. b < length before) (λ b h. rw (marks-length i) h) file (f .1) in
           let same = all-mono (λ b. b < 200) (λ b. isMarked before b ≡ has b (filesBefore table directory i)) (files-marked i) file (f .1) in
           let q : found ≡ outcome (metMark file before) = w .answers ∙ rw (there, m) in

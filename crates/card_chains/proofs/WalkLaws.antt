@@ -16,7 +16,7 @@ use Rattle.card_model.specs.Files.{chainStep, chain, chainOf}
 use Rattle.card_model.proofs.TableLaws.{next-below}
 use Rattle.card_model.proofs.ChainLaws.{Links, ends, goes, chain-links, chain-head}
 use Rattle.card_model.proofs.EntryLaws.{right-entry}
-use Rattle.card_chains.specs.Marks.{isMarked, markAll, metMark, outcome, broken, Walked, fileChain, IsAfter}
+use Rattle.card_chains.specs.Marks.{isMarked, markAll, metMark, outcome, broken, Walked, IsAfter}
 
 pub step-below : (table : List ℕ) (b n : ℕ) {l : Link} → l ≡ linkAt table b → l ≡ Next n → n < 200
 unfolding linkAt
@@ -74,21 +74,16 @@ module _ (marks : List ℕ) (shared : Bool) where
           let g : found ≡ broken = q ∙ rw d in
           rw g (walked-broken (set marks b 1) (e ∙ rw f))
 
--- ---- the walk along an entry's file
+-- ---- the walk along the file of a used entry
 
-module _ {entry entry′ : List ℕ} (e : entry′ ≡ entry) {used : Bool} (q : used ≡ isUsed entry′) where
-  pub first-below : (b : ℕ) → used ≡ true → b ≡ firstBlock entry′ → wrongEntry entry ≡ false → b < 200
-  first-below b u p r = rw (p, e) (right-entry entry (sym (ap isUsed e) ∙ sym q ∙ u) r .0)
+module _ {entry entry′ : List ℕ} (e : entry′ ≡ entry) where
+  pub first-below : (b : ℕ) → isUsed entry ≡ true → b ≡ firstBlock entry′ → wrongEntry entry ≡ false → b < 200
+  first-below b u p r = rw (p, e) (right-entry entry u r .0)
 
-  module _ (table marks : List ℕ) where
-    pub walk-unused : used ≡ false → Walked (fileChain table entry) marks false (outcome false) marks
-    unfolding fileChain metMark markAll
-    walk-unused u = walked-some marks false [] (rw (← e, ← q, u)) refl refl
-
-    pub walk-used : {b n : ℕ} {found : ℕ} {marks′ : List ℕ} → used ≡ true → b ≡ firstBlock entry′ → n ≡ size entry′
-        → Walked (chain table n b) marks false found marks′ → Walked (fileChain table entry) marks false found marks′
-    unfolding fileChain chainOf
-    walk-used u p k w = rw (← e, ← q, u, ← p, ← k) w
+  pub walk-used : (table marks : List ℕ) {b n : ℕ} {found : ℕ} {marks′ : List ℕ} → b ≡ firstBlock entry′ → n ≡ size entry′
+      → Walked (chain table n b) marks false found marks′ → Walked (chainOf table entry) marks false found marks′
+  unfolding chainOf
+  walk-used table marks p k w = rw (← e, ← p, ← k) w
 
 -- ---- the block some steps on
 

@@ -9,8 +9,7 @@ use lib.Dec.{eqb}
 use lib.ListN.{getD, set, replicate}
 use Rattle.verdicts.specs.declared.Verdict.{Verdict}
 use Rattle.verdicts.specs.Rows.{unlessRefused}
-use Rattle.card_model.specs.Entries.{isUsed}
-use Rattle.card_model.specs.Files.{chain, chainOf, filesBefore, chainRow, sharingRow}
+use Rattle.card_model.specs.Files.{chain, filesBefore, chainRow, sharingRow}
 
 -- One number for each user block, not 0 where it is marked.
 unfoldable pub noMarks : List ℕ
@@ -64,7 +63,3 @@ pub record Walked (blocks : Option (List ℕ)) (marks : List ℕ) (shared : Bool
 -- r is the block that so many steps from b lead to: on a chain that is longer than that, the chain's block at this index.
 abbrev pub IsAfter : List ℕ → ℕ → ℕ → ℕ → Type 0
 IsAfter table b steps r = (size : ℕ) (blocks : List ℕ) → chain table size b ≡ some blocks → steps < size → r ≡ getD blocks steps 0
-
--- The chain of an entry's file: an unused entry's has no block.
-unfoldable pub fileChain : List ℕ → List ℕ → Option (List ℕ)
-fileChain table entry = cond (isUsed entry) (chainOf table entry) (some [])

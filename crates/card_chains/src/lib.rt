@@ -4,14 +4,13 @@ mod links;
 pub mod walking;
 
 use crate::links::read_table;
-use crate::walking::APART;
 use crate::walking::BROKEN;
 use crate::walking::SHARED;
 use crate::walking::walk;
 use card_directory::entry::entry_at;
 use card_directory::entry::first_block;
-use card_directory::entry::is_used;
 use card_directory::entry::size;
+use card_directory::listing::listed_at;
 use card_table::free_or_damaged;
 use card_table::link_at;
 use verdicts::Place;
@@ -25,21 +24,19 @@ ghost use lib.Dec.{ltb};
 ghost use lib.ListN.{length};
 ghost use Rattle.verdicts.specs.Rows.{accepted};
 ghost use Rattle.card_model.specs.Layout.{tableOf, directoryOf};
-ghost use Rattle.card_model.specs.Entries.{wrongEntry};
-ghost use Rattle.card_model.specs.Files.{isOrphan, orphans};
+ghost use Rattle.card_model.specs.Entries.{isUsed, wrongEntry};
+ghost use Rattle.card_model.specs.Files.{chainOf, isOrphan, orphans};
 ghost use Rattle.card_model.specs.Sound.{entryOn};
-ghost use Rattle.card_chains.specs.Marks.{noMarks, fileMarks, chainRows, Walked, fileChain, isShared};
+ghost use Rattle.card_directory.specs.Listed.{Listed};
+ghost use Rattle.card_chains.specs.Marks.{noMarks, fileMarks, chainRows, Walked, isShared};
 
-// The walk along the file of entry i.
+// The walk along the file of entry i, a used one.
 fn walk_file(card: &[u8], table: &[u16; 256], marks: &mut [u8; 200], i: usize) -> u8
     requires { ⌜ (length (now card) ≡ 131072) × (i < 208) ⌝ }
-    requires { ⌜ wrongEntry (entryOn (now card) i) ≡ false ⌝ }
-    ensures { λ r. ⌜ Walked (fileChain (now (table .entry)) (entryOn (now (card .entry)) i)) (now (marks .entry)) false r (now (marks .exit)) ⌝ }
+    requires { ⌜ (isUsed (entryOn (now card) i) ≡ true) × (wrongEntry (entryOn (now card) i) ≡ false) ⌝ }
+    ensures { λ r. ⌜ Walked (chainOf (now (table .entry)) (entryOn (now (card .entry)) i)) (now (marks .entry)) false r (now (marks .exit)) ⌝ }
 {
     let entry = entry_at(card, i);
-    if !is_used(entry) {
-        return APART;
-    }
     walk(table, marks, first_block(entry), size(entry), false)
 }
 
@@ -56,10 +53,11 @@ fn remember(first: usize, found: u8, i: usize) -> usize
     first
 }
 
-// Refusals 27 and 28. A bad chain anywhere comes before a shared block, so the first entry that shares one is remembered and
+// Refusals 27 and 28, over the list of the used entries. A bad chain anywhere comes before a shared block, so the first entry that shares one is remembered and
 // the pass goes on.
-pub fn walk_files(card: &[u8], marks: &mut [u8; 200]) -> Verdict
+pub fn walk_files(card: &[u8], used: &[u8; 208], count: usize, marks: &mut [u8; 200]) -> Verdict
     requires { ⌜ (length (now card) ≡ 131072) × (now marks ≡ noMarks) ⌝ }
+    requires { ⌜ Listed (directoryOf (now card)) 208 (now used) count ⌝ }
     requires { ⌜ ((i : ℕ) → i < 208 → wrongEntry (entryOn (now card) i) ≡ false) ⌝ }
     ensures { λ r. ⌜ r ≡ chainRows (tableOf (now (card .entry))) (directoryOf (now (card .entry))) ⌝ }
     ensures { λ r. ⌜ (accepted r ≡ true → now (marks .exit) ≡ fileMarks (tableOf (now (card .entry))) (directoryOf (now (card .entry))) 208) ⌝ }
@@ -67,14 +65,15 @@ pub fn walk_files(card: &[u8], marks: &mut [u8; 200]) -> Verdict
     let mut table = [0u16; 256];
     read_table(card, &mut table);
     let mut first: usize = 208;
-    let mut i = 0;
-    while i < 208 {
+    let mut j = 0;
+    while j < count {
+        let i = listed_at(used, j);
         let found = walk_file(card, &table, marks, i);
         if found == BROKEN {
             return refused_at(27, Place::Entry(i));
         }
         first = remember(first, found, i);
-        i += 1;
+        j += 1;
     }
     if first < 208 {
         return refused_at(28, Place::Entry(first));

@@ -1,7 +1,7 @@
 -- Parts of a card, and a chain that is followed block by block. Assumes nothing.
 use Prim.Native.Nat.{ℕ, zero, suc, _+_, _-_, _≤_, _<_}
 use mathlib.Core.Path.{_≡_, refl, ap, _∙_}
-use mathlib.Core.Bool.{true, false, not, _&&_, _||_, false≢true}
+use mathlib.Core.Bool.{true, false, not, _&&_, _||_, false≢true, true≢false}
 use mathlib.Core.List.{List, _∷_}
 use mathlib.Core.Option.{Option, none, some, Option·map}
 use native.Mathlib.Omega.{arith}
@@ -80,6 +80,15 @@ game-chain table entry g w b z =
     let u : isUsed entry ≡ true = rw (eqb-true (kind entry) 0xCC g) in
     let e : chain table (size entry) 0 ≡ some (fileOf table entry) = rw (← z) (file-chain entry u table b) in
     record { most = right-entry entry u w .2; there = rw e; file = rw e }
+
+-- an unused entry is no game
+no-game : (entry : List ℕ) → isUsed entry ≡ false → isGame entry ≡ false
+unfolding isGame isUsed
+no-game entry u = ne-eqb (kind entry) 0xCC (λ d. true≢false (rw d at u))
+
+pub unused-game : (table : List ℕ) (directory : List (List ℕ)) (i : ℕ) → isUsed (entryAt directory i) ≡ false → breaksGameRule table directory i ≡ false
+unfolding breaksGameRule
+unused-game table directory i u = rw (no-game (entryAt directory i) u)
 
 -- ---- what a search answered
 

@@ -7,16 +7,20 @@ use mathlib.Core.Option.{Option, none, some}
 use native.Mathlib.Omega.{arith}
 use native.Mathlib.Decide.{ℕ-discrete}
 use native.Mathlib.Numerals.{add-one}
+use lib.Dec.{ltb}
 use lib.ListN.{length, getD, set, length-set}
 use lib.Seq.{getD-set-same, getD-set-other}
+use borrow.Author.Tests.{ltb-true, ltb-false}
 use Rattle.words.specs.Lists.{anyOf, numbersFrom}
 use Rattle.words.specs.Search.{lowest}
-use Rattle.words.proofs.SearchLaws.{lowest-nothing}
-use Rattle.words.proofs.LoopLaws.{lowest-here, lowest-next}
+use Rattle.words.proofs.LoopLaws.{lowest-here, lowest-next, lowest-end}
 use Rattle.words.proofs.ListLaws.{numbers-snoc}
 use Rattle.words.proofs.JoinLaws.{any-append}
 use Rattle.card_model.specs.Entries.{isUsed, entryAt}
 use Rattle.card_directory.specs.Listed.{NextUsed, reached, Listed}
+
+pub reached-next : (used : List ℕ) (j i : ℕ) → i ≡ getD used j 0 → i + 1 ≡ reached used (j + 1)
+reached-next used j i e = rw (add-one j, add-one i, e)
 
 -- a store behind the first numbers leaves them
 reached-set : (used : List ℕ) (n x j : ℕ) → j ≤ n → reached (set used n x) j ≡ reached used j
@@ -70,75 +74,87 @@ module _ (directory : List (List ℕ)) where
         go j h (no d) =
             rw (getD-set-other used count j i 0 d, reached-set used count i j (omega arith)) (later (l .each j (omega (arith, d))))
 
+-- a number of the list
+pub listed-below : {directory : List (List ℕ)} {used : List ℕ} {count : ℕ} → Listed directory 208 used count → (j i : ℕ) → i ≡ getD used j 0 → j < count → i < 208
+listed-below l j i e h = rw e (l .each j h .before-end)
+
+pub listed-used : {directory : List (List ℕ)} {used : List ℕ} {count : ℕ} → Listed directory 208 used count → (j i : ℕ) → i ≡ getD used j 0 → j < count
+    → isUsed (entryAt directory i) ≡ true
+listed-used l j i e h = rw e (l .each j h .is-used)
+
+-- ---- what no unused entry changes is the same where a walk has come to and at the next entry of the list, or at the end
+
+module _ {A : Type 0} (directory : List (List ℕ)) (f : ℕ → A) (same : (k : ℕ) → isUsed (entryAt directory k) ≡ false → f (suc k) ≡ f k) where
+  stretch : (a n : ℕ) → ((k : ℕ) → a ≤ k → k < a + n → isUsed (entryAt directory k) ≡ false) → f a ≡ f (a + n)
+  stretch a zero u =
+      let e : a ≡ a + 0 = omega arith in
+      ap f e
+  stretch a (suc n) u =
+      let e : suc (a + n) ≡ a + suc n = omega arith in
+      stretch a n (λ k b c. u k b (omega arith)) ∙ sym (same (a + n) (u (a + n) (omega arith) (omega arith))) ∙ ap f e
+
+  between : (a b : ℕ) → a ≤ b → ((k : ℕ) → a ≤ k → k < b → isUsed (entryAt directory k) ≡ false) → f a ≡ f b
+  between a b h u =
+      let e : a + (b - a) ≡ b = omega arith in
+      stretch a (b - a) (λ k c d. u k c (omega (arith, e))) ∙ ap f e
+
+  module _ {used : List ℕ} {count : ℕ} (l : Listed directory 208 used count) (j : ℕ) where
+    pub stays : (i : ℕ) → i ≡ getD used j 0 → j < count → f (reached used j) ≡ f i
+    stays i e h =
+        let u : NextUsed directory (reached used j) 208 i = rw e (l .each j h) in
+        between (reached used j) i (u .from-start) (u .skipped)
+
+    pub stays-to-end : j ≡ count → f (reached used j) ≡ f 208
+    stays-to-end z = rw z (between (reached used count) 208 (reached-before directory 208 l) (l .rest))
+
 -- ---- searches for what no unused entry is
 
 -- the first entry from `start` on that passes
 unfoldable pub firstFrom : (ℕ → Bool) → ℕ → Option ℕ
 firstFrom p start = lowest p start (208 - start)
 
-lowest-skip : (p : ℕ → Bool) (a n : ℕ) → a + n ≤ 208 → ((k : ℕ) → a ≤ k → k < a + n → p k ≡ false) → firstFrom p a ≡ firstFrom p (a + n)
+first-same : (p : ℕ → Bool) (k : ℕ) → p k ≡ false → firstFrom p (suc k) ≡ firstFrom p k
 unfolding firstFrom
-lowest-skip p a zero h f =
-    let e : a + 0 ≡ a = omega arith in
-    rw e
-lowest-skip p a (suc n) h f =
-    let e : a + 1 + n ≡ a + suc n = omega arith in
-    lowest-next p a 208 (omega arith) (f a (omega arith) (omega arith))
-    ∙ lowest-skip p (a + 1) n (omega arith) (λ k b c. f k (omega arith) (omega arith)) ∙ ap (firstFrom p) e
+first-same p k q = go (ltb k 208) refl
+  where
+    go : (t : Bool) → ltb k 208 ≡ t → lowest p (suc k) (208 - suc k) ≡ lowest p k (208 - k)
+    go true b = rw (← add-one k) (sym (lowest-next p k 208 (ltb-true k 208 b) q))
+    go false b =
+        let h = ltb-false k 208 b in
+        lowest-end p (suc k) 208 (omega arith) ∙ sym (lowest-end p k 208 h)
 
 any-snoc : (p : ℕ → Bool) (n : ℕ) → anyOf p (numbersFrom 0 (suc n)) ≡ (anyOf p (numbersFrom 0 n) || p n)
 any-snoc p n =
     let z : 0 + n ≡ n = omega arith in
     ap (anyOf p) (numbers-snoc 0 n) ∙ any-append p (numbersFrom 0 n) ((0 + n) ∷ []) ∙ rw (z, or-false (p n))
 
-any-skip : (p : ℕ → Bool) (a n : ℕ) → ((k : ℕ) → a ≤ k → k < a + n → p k ≡ false) → anyOf p (numbersFrom 0 (a + n)) ≡ anyOf p (numbersFrom 0 a)
-any-skip p a zero f =
-    let e : a + 0 ≡ a = omega arith in
-    rw e
-any-skip p a (suc n) f =
-    let e : a + suc n ≡ suc (a + n) = omega arith in
-    ap (λ (m : ℕ). anyOf p (numbersFrom 0 m)) e ∙ any-snoc p (a + n)
-    ∙ rw (f (a + n) (omega arith) (omega arith), or-false) (any-skip p a n (λ k b c. f k b (omega arith)))
-
 module _ (directory : List (List ℕ)) (p : ℕ → Bool) (unused : (i : ℕ) → isUsed (entryAt directory i) ≡ false → p i ≡ false)
     {used : List ℕ} {count : ℕ} (l : Listed directory 208 used count) where
-  -- the walk along the list is at its number j, i
+  -- the walk along the list is at its number j, which is i
   module _ (j i : ℕ) (e : i ≡ getD used j 0) (h : j < count) where
-    next : NextUsed directory (reached used j) 208 i
-    next = rw e (l .each j h)
-
-    none-skipped : (k : ℕ) → reached used j ≤ k → k < i → p k ≡ false
-    none-skipped k a b = unused k (next .skipped k a b)
-
-    skip : firstFrom p (reached used j) ≡ firstFrom p i
-    skip =
-        let z : reached used j + (i - reached used j) ≡ i = omega (arith, next .from-start) in
-        lowest-skip p (reached used j) (i - reached used j) (omega (arith, next .before-end, z))
-        (λ k a b. none-skipped k a (omega (arith, z))) ∙ ap (firstFrom p) z
-
-    any-before : anyOf p (numbersFrom 0 i) ≡ anyOf p (numbersFrom 0 (reached used j))
-    any-before =
-        let z : reached used j + (i - reached used j) ≡ i = omega (arith, next .from-start) in
-        ap (λ (n : ℕ). anyOf p (numbersFrom 0 n)) (sym z) ∙ any-skip p (reached used j) (i - reached used j) (λ k a b. none-skipped k a (omega (arith, z)))
+    from-here : firstFrom p (reached used j) ≡ firstFrom p i
+    from-here = stays directory (firstFrom p) (λ k u. first-same p k (unused k u)) l j i e h
 
     pub found-here : p i ≡ true → firstFrom p (reached used j) ≡ some i
     unfolding firstFrom
-    found-here q = skip ∙ lowest-here p i 208 (next .before-end) q
+    found-here q = from-here ∙ lowest-here p i 208 (listed-below l j i e h) q
 
     pub found-later : p i ≡ false → firstFrom p (reached used j) ≡ firstFrom p (reached used (j + 1))
-    unfolding firstFrom
-    found-later q = skip ∙ lowest-next p i 208 (next .before-end) q ∙ rw (add-one j, add-one i, e)
+    found-later q = from-here ∙ sym (first-same p i q) ∙ ap (firstFrom p) (sym (add-one i) ∙ reached-next used j i e)
+
+    any-before : anyOf p (numbersFrom 0 (reached used j)) ≡ anyOf p (numbersFrom 0 i)
+    any-before = stays directory (λ n. anyOf p (numbersFrom 0 n)) (λ k u. any-snoc p k ∙ rw (unused k u, or-false)) l j i e h
 
   pub found-none : (j : ℕ) → j ≡ count → firstFrom p (reached used j) ≡ none
   unfolding firstFrom
-  found-none j z = lowest-nothing p (reached used j) (208 - reached used j) (λ k a b. unused k (l .rest k (rw (← z) a) (omega arith)))
+  found-none j z = stays-to-end directory (firstFrom p) (λ k u. first-same p k (unused k u)) l j z
 
   -- among the entries before the list's number j are those of its first j numbers
   any-reached : (j : ℕ) → j ≤ count → anyOf p (numbersFrom 0 (reached used j)) ≡ anyOf (λ h. p (getD used h 0)) (numbersFrom 0 j)
   any-reached zero h = refl
   any-reached (suc j) h =
-      let before = any-before j (getD used j 0) refl (omega arith) ∙ any-reached j (omega arith) in
+      let before = sym (any-before j (getD used j 0) refl (omega arith)) ∙ any-reached j (omega arith) in
       any-snoc p (getD used j 0) ∙ rw before (sym (any-snoc (λ h. p (getD used h 0)) j))
 
   pub any-listed : (j i : ℕ) → i ≡ getD used j 0 → j < count → anyOf p (numbersFrom 0 i) ≡ anyOf (λ h. p (getD used h 0)) (numbersFrom 0 j)
-  any-listed j i e h = any-before j i e h ∙ any-reached j (omega arith)
+  any-listed j i e h = sym (any-before j i e h) ∙ any-reached j (omega arith)

@@ -3,7 +3,12 @@ use crate::entry::entry_at;
 use crate::entry::first_block;
 use crate::entry::is_game;
 use crate::entry::size;
+use crate::listing::listed_at;
 use card_table::fat_entry;
+use verdicts::Place;
+use verdicts::Verdict;
+use verdicts::done;
+use verdicts::refused_at;
 ghost use mathlib.Core.Path.{_≡_};
 ghost use mathlib.Core.Bool.{true, false};
 ghost use Prim.Native.Nat.{_≤_, _<_};
@@ -11,8 +16,9 @@ ghost use lib.ListN.{length};
 ghost use Rattle.words.specs.Lists.{anyOf, isSome, numbersFrom};
 ghost use Rattle.card_model.specs.Layout.{tableOf, directoryOf};
 ghost use Rattle.card_model.specs.Entries as model;
-ghost use Rattle.card_model.specs.Files.{chain, orEmpty, rising, breaksGameRule};
+ghost use Rattle.card_model.specs.Files.{chain, orEmpty, rising, breaksGameRule, gameRow};
 ghost use Rattle.card_directory.specs.Rules.{GoodChains};
+ghost use Rattle.card_directory.specs.Listed.{Listed};
 
 // Whether an entry before i is a game.
 fn game_before(card: &[u8], i: usize) -> bool
@@ -45,7 +51,7 @@ fn rises(card: &[u8], blocks: usize) -> bool
     true
 }
 
-pub(crate) fn breaks_game_rule(card: &[u8], i: usize) -> bool
+fn breaks_game_rule(card: &[u8], i: usize) -> bool
     requires { ⌜ (length (now card) ≡ 131072) × (i < 208) ⌝ }
     requires { ⌜ GoodChains (tableOf (now card)) (directoryOf (now card)) ⌝ }
     ensures { λ r. ⌜ r ≡ breaksGameRule (tableOf (now (card .entry))) (directoryOf (now (card .entry))) i ⌝ }
@@ -65,4 +71,22 @@ pub(crate) fn breaks_game_rule(card: &[u8], i: usize) -> bool
         return true;
     }
     !rises(card, blocks)
+}
+
+// The refusal at the first entry that breaks the rule.
+pub fn game_row(card: &[u8], used: &[u8; 208], count: usize) -> Verdict
+    requires { ⌜ length (now card) ≡ 131072 ⌝ }
+    requires { ⌜ GoodChains (tableOf (now card)) (directoryOf (now card)) ⌝ }
+    requires { ⌜ Listed (directoryOf (now card)) 208 (now used) count ⌝ }
+    ensures { λ r. ⌜ r ≡ gameRow (tableOf (now (card .entry))) (directoryOf (now (card .entry))) ⌝ }
+{
+    let mut j = 0;
+    while j < count {
+        let i = listed_at(used, j);
+        if breaks_game_rule(card, i) {
+            return refused_at(30, Place::Entry(i));
+        }
+        j += 1;
+    }
+    done()
 }

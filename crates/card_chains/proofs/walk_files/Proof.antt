@@ -1,19 +1,22 @@
 -- `walk_files` meets its contract. The loop's invariant: the marks are those of the files that were passed, no chain of theirs is
 -- bad, and the first of them that shares a block is remembered. Assumes nothing.
-use Prim.Native.Nat.{ℕ, _-_, _≤_, _<_}
+use Prim.Native.Nat.{ℕ, _+_, _-_, _≤_, _<_}
 use mathlib.Core.Path.{_≡_, refl, sym, ap, _∙_}
 use mathlib.Core.Bool.{Bool, false≢true}
 use mathlib.Core.List.{List}
+use mathlib.Core.Option.{none, some}
 use native.Mathlib.Omega.{arith}
-use Rattle.words.specs.Search.{lowest}
-use Rattle.words.proofs.LoopLaws.{lowest-here, lowest-next, lowest-end}
-use Rattle.verdicts.specs.Rows.{done, accepted}
+use Rattle.verdicts.specs.declared.Place.the-variants.{Entry}
+use Rattle.verdicts.specs.declared.Verdict.{Verdict}
+use Rattle.verdicts.specs.Rows.{done, refusedAt, accepted}
 use Rattle.card_model.specs.Layout.{tableOf, directoryOf}
 use Rattle.card_model.specs.Entries.{entryAt}
 use Rattle.card_model.specs.Files.{badChain, chainRow, sharesBlock, sharingRow}
-use Rattle.card_chains.specs.Marks.{fileMarks}
-use Rattle.card_chains.proofs.MarkLaws.{marks-start, walk-broken, walk-marks, walk-shares}
-use Rattle.card_chains.proofs.FirstLaws.{orEnd, first-next, first-some, first-none}
+use Rattle.card_directory.specs.Listed.{reached}
+use Rattle.card_directory.proofs.ListedLaws.{reached-next, listed-below, listed-used, stays, stays-to-end, firstFrom, found-here, found-later, found-none}
+use Rattle.card_chains.specs.Marks.{fileMarks, chainRows}
+use Rattle.card_chains.proofs.MarkLaws.{marks-start, marks-stay, unused-bad, unused-shares, walk-broken, walk-marks, walk-shares}
+use Rattle.card_chains.proofs.FirstLaws.{orEnd, firstBefore, before-same, first-next, first-some, first-none}
 use borrow.Author.Needs.{needs}
 use borrow.Author.Tests.{eq-eqb, ne-eqb}
 use Rattle.card_chains.proofs.walk_files.Statement.{statement}
@@ -25,52 +28,88 @@ bad card i = badChain (tableOf card) (entryAt (directoryOf card) i)
 abbrev shares : List ℕ → ℕ → Bool
 shares card = sharesBlock (tableOf card) (directoryOf card)
 
+abbrev marked : List ℕ → ℕ → List ℕ
+marked card = fileMarks (tableOf card) (directoryOf card)
+
 abbrev Inv-loop : tie.InvT-loop
-Inv-loop card marks₀ table first₀ i₀ marks first i =
-    (i ≤ 208) × (marks ≡ fileMarks (tableOf card) (directoryOf card) i)
-    × (lowest (bad card) 0 208 ≡ lowest (bad card) i (208 - i)) × (first ≡ orEnd 208 (lowest (shares card) 0 i))
+Inv-loop card used count marks₀ table first₀ j₀ marks first j =
+    (j ≤ count) × (marks ≡ marked card (reached used j)) × (firstFrom (bad card) 0 ≡ firstFrom (bad card) (reached used j))
+    × (first ≡ orEnd 208 (firstBefore (shares card) (reached used j)))
 
 abbrev μ-loop : tie.MeasureT-loop
-μ-loop card marks₀ table first₀ i₀ marks first i = 208 - i
+μ-loop card used count marks₀ table first₀ j₀ marks first j = count - j
 
--- at the end no chain is bad
+start : (card : List ℕ) → 208 ≡ orEnd 208 (firstBefore (shares card) 0)
+unfolding firstBefore
+start card = refl
 
-no-row : (card : List ℕ) (i : ℕ) → i ≡ 208 → lowest (bad card) 0 208 ≡ lowest (bad card) i (208 - i) → chainRow (tableOf card) (directoryOf card) ≡ done
-unfolding chainRow
-no-row card i z e = rw (e ∙ lowest-end (bad card) i _ (omega arith))
+-- the rows by what is found
+
+module _ (card : List ℕ) where
+  abbrev rows : Verdict
+  rows = chainRows (tableOf card) (directoryOf card)
+
+  chain-refused : (i : ℕ) → firstFrom (bad card) 0 ≡ some i → refusedAt 27 (Entry i) ≡ rows
+  unfolding chainRow firstFrom
+  chain-refused i e = rw e
+
+  module _ (sound : firstFrom (bad card) 0 ≡ none) where
+    sharing-refused : (i : ℕ) → firstBefore (shares card) 208 ≡ some i → refusedAt 28 (Entry i) ≡ rows
+    unfolding chainRow firstFrom sharingRow firstBefore
+    sharing-refused i e = rw (sound, e)
+
+    neither-refused : firstBefore (shares card) 208 ≡ none → done ≡ rows
+    unfolding chainRow firstFrom sharingRow firstBefore
+    neither-refused e = rw (sound, e)
 
 read-table-requires : tie.Need-read-table-requires Inv-loop μ-loop
 read-table-requires c κs = search needs
 
 loop-holds : tie.Need-loop-holds Inv-loop μ-loop
-loop-holds c = (search needs, c .before .before .before .pre .0 .1 ∙ sym (marks-start _ _), refl, refl)
+loop-holds c = (omega arith, c .before .before .before .pre .0 .1 ∙ sym (marks-start _ _), refl, start _)
+
+listed-at-requires : tie.Need-listed-at-requires Inv-loop μ-loop
+listed-at-requires c κs =
+    let a = c .before .before .before .before .before in
+    omega (arith, a .pre .1 .0 .fits)
 
 walk-file-requires : tie.Need-walk-file-requires Inv-loop μ-loop
 walk-file-requires c κs =
-    let a = c .before .before .before .before .before .before .before in
-    ((a .pre .0 .0, omega arith), a .pre .1 _ (omega arith))
+    let n = c .before .before in
+    let l = n .before .before in
+    let a = l .before .before .before .before in
+    let list = a .pre .1 .0 in
+    let e = n .listed-at .ensures in
+    let b = listed-below list (l .loop .j) _ e (omega arith) in
+    ((a .pre .0 .0, b), (listed-used list (l .loop .j) _ e (omega arith), a .pre .1 .1 _ b))
 
 refused-at-requires : tie.Need-refused-at-requires Inv-loop μ-loop
 refused-at-requires c κs = search needs
 
 returns : tie.Need-returns Inv-loop μ-loop
-unfolding chainRow
 returns c =
     let d = c .before in
     let w = d .before in
     let v = c .refused-at .ensures in
-    let l = w .before .before .before .before in
+    let n = w .before .before .before in
+    let l = n .before .before in
     let r = l .before in
-    let card = r .before .before .before .args .card .now in
+    let a = r .before .before .before in
+    let card = a .args .card .now in
+    let list = a .pre .1 .0 in
+    let j = l .loop .j in
+    let e = n .listed-at .ensures in
+    let h : j < a .args .count = omega arith in
     let walked = rw (r .read-table .ensures) at (w .walk-file .ensures) in
-    let b = sym (walk-broken _ _ _ (l .loop .inv .1) walked) ∙ eq-eqb _ _ (d .if1 .taken) in
-    (v ∙ rw (l .loop .inv .2 ∙ lowest-here (bad card) (l .loop .i) _ (omega arith) b), λ e. absurd (false≢true (sym (ap accepted v) ∙ e)))
+    let m = l .loop .inv .1 ∙ stays _ (marked card) (marks-stay _ _) list j _ e h in
+    let b = sym (walk-broken _ _ _ (listed-used list j _ e h) m walked) ∙ eq-eqb _ _ (d .if1 .taken) in
+    (v ∙ chain-refused card _ (l .loop .inv .2 ∙ found-here _ (bad card) (unused-bad _ _) list j _ e h b), λ e. absurd (false≢true (sym (ap accepted v) ∙ e)))
 
 remember-requires : tie.Need-remember-requires Inv-loop μ-loop
 remember-requires c κs = search needs
 
-add-i : tie.Need-add-i Inv-loop μ-loop
-add-i c = search needs
+add-j : tie.Need-add-j Inv-loop μ-loop
+add-j c = search needs
 
 loop-less : tie.Need-loop-less Inv-loop μ-loop
 loop-less c = search needs
@@ -78,47 +117,61 @@ loop-less c = search needs
 loop-again : tie.Need-loop-again Inv-loop μ-loop
 loop-again c =
     let w = c .before .before in
-    let l = w .before .before .before .before in
+    let n = w .before .before .before in
+    let l = n .before .before in
     let r = l .before in
     let a = r .before .before .before in
     let card = a .args .card .now in
-    let h : l .loop .i < 208 = omega arith in
+    let list = a .pre .1 .0 in
+    let j = l .loop .j in
+    let e = n .listed-at .ensures in
+    let h : j < a .args .count = omega arith in
+    let below : j + 1 ≤ a .args .count = omega arith in
+    let b = listed-below list j _ e h in
+    let u = listed-used list j _ e h in
     let walked = rw (r .read-table .ensures) at (w .walk-file .ensures) in
+    let m = l .loop .inv .1 ∙ stays _ (marked card) (marks-stay _ _) list j _ e h in
     let sound = ne-eqb _ _ (c .before .if1 .left) in
-    let good = sym (walk-broken _ _ _ (l .loop .inv .1) walked) ∙ sound in (
-      omega arith,
-      walk-marks _ _ _ (l .loop .inv .1) walked sound,
-      l .loop .inv .2 ∙ lowest-next (bad card) (l .loop .i) _ h good,
-      first-next (shares card) _ (l .loop .first) (l .loop .i) _ _ h (l .loop .inv .3)
-          (walk-shares _ _ _ (l .loop .inv .1) walked sound (a .pre .1 (l .loop .i) h)) (c .remember .ensures),
+    let good = sym (walk-broken _ _ _ u m walked) ∙ sound in
+    let first = l .loop .inv .3 ∙ ap (orEnd 208) (stays _ (firstBefore (shares card)) (λ k q. before-same _ k (unused-shares _ _ k q)) list j _ e h) in
+    let on = reached-next _ j _ e in (
+      below,
+      walk-marks _ _ _ u m walked sound ∙ ap (marked card) on,
+      l .loop .inv .2 ∙ found-later _ (bad card) (unused-bad _ _) list j _ e h good,
+      first-next (shares card) _ (l .loop .first) _ _ _ b first (walk-shares _ _ _ u m walked sound (a .pre .1 .1 _ b)) (c .remember .ensures)
+          ∙ ap (λ (k : ℕ). orEnd 208 (firstBefore (shares card) k)) on,
     )
 
 refused-at-requires-2 : tie.Need-refused-at-requires-2 Inv-loop μ-loop
 refused-at-requires-2 c κs = search needs
 
 returns-2 : tie.Need-returns-2 Inv-loop μ-loop
-unfolding sharingRow
 returns-2 c =
     let l = c .before .before .before in
     let v = c .refused-at2 .ensures in
-    let card = l .before .before .before .before .args .card .now in
-    let z : l .loop .i ≡ 208 = omega arith in (
-      v ∙ rw (no-row card (l .loop .i) z (l .loop .inv .2), first-some (shares card) _ _ (l .loop .i) z (l .loop .inv .3) (c .before .if2 .taken)),
-      λ e. absurd (false≢true (sym (ap accepted v) ∙ e)),
-    )
+    let a = l .before .before .before .before in
+    let card = a .args .card .now in
+    let list = a .pre .1 .0 in
+    let j = l .loop .j in
+    let z : j ≡ a .args .count = omega arith in
+    let first = l .loop .inv .3 ∙ ap (orEnd 208) (stays-to-end _ (firstBefore (shares card)) (λ k q. before-same _ k (unused-shares _ _ k q)) list j z) in
+    let sound = l .loop .inv .2 ∙ found-none _ (bad card) (unused-bad _ _) list j z in
+    (v ∙ sharing-refused card sound _ (first-some (shares card) _ _ first (c .before .if2 .taken)), λ e. absurd (false≢true (sym (ap accepted v) ∙ e)))
 
 done-requires : tie.Need-done-requires Inv-loop μ-loop
 done-requires c κs = search needs
 
 returns-3 : tie.Need-returns-3 Inv-loop μ-loop
-unfolding sharingRow
 returns-3 c =
     let l = c .before .before .before in
-    let card = l .before .before .before .before .args .card .now in
-    let z : l .loop .i ≡ 208 = omega arith in (
-      c .done .ensures ∙ rw (no-row card (l .loop .i) z (l .loop .inv .2), first-none (shares card) _ _ (l .loop .i) z (l .loop .inv .3) (omega arith)),
-      λ e. rw z at (l .loop .inv .1),
-    )
+    let a = l .before .before .before .before in
+    let card = a .args .card .now in
+    let list = a .pre .1 .0 in
+    let j = l .loop .j in
+    let z : j ≡ a .args .count = omega arith in
+    let first = l .loop .inv .3 ∙ ap (orEnd 208) (stays-to-end _ (firstBefore (shares card)) (λ k q. before-same _ k (unused-shares _ _ k q)) list j z) in
+    let sound = l .loop .inv .2 ∙ found-none _ (bad card) (unused-bad _ _) list j z in
+    (c .done .ensures ∙ neither-refused card sound (first-none (shares card) _ _ first (omega arith)), λ e. l .loop .inv .1 ∙ stays-to-end _ (marked card) (marks-stay _ _) list j z)
 
 pub walk-files-spec : {M : Type 1} → statement M
 walk-files-spec =
@@ -128,11 +181,12 @@ walk-files-spec =
     μ-loop
     read-table-requires
     loop-holds
+    listed-at-requires
     walk-file-requires
     refused-at-requires
     returns
     remember-requires
-    add-i
+    add-j
     loop-less
     loop-again
     refused-at-requires-2
