@@ -2,12 +2,12 @@
 -- files before it. Assumes nothing.
 use Prim.Native.Nat.{ℕ, suc, _+_, _-_, _≤_, _<_}
 use mathlib.Core.Path.{_≡_, refl, sym, ap, _∙_}
-use mathlib.Core.Bool.{Bool, true, false, not, cond, _&&_, _||_, or-false}
+use mathlib.Core.Bool.{Bool, true, false, not, cond, _&&_, _||_, or-false, Bool·not-not}
 use mathlib.Core.List.{List, [], _∷_, _++_}
 use mathlib.Core.Option.{Option, none, some}
 use native.Mathlib.Omega.{arith}
 use native.Mathlib.Numerals.{add-one}
-use lib.Dec.{eqb}
+use lib.Dec.{eqb, ltb}
 use lib.ListN.{length, getD, set, length-set, getD-replicate}
 use lib.Seq.{getD-set-same, getD-set-other}
 use borrow.Author.Tests.{eqb-true, eqb-false, ne-eqb}
@@ -15,8 +15,8 @@ use Rattle.words.specs.Lists.{keep, anyOf, has, Distinct, isSome, numbersFrom}
 use Rattle.words.proofs.Bools.{or-false-left, or-false-right}
 use Rattle.words.proofs.ListLaws.{All, all-mono}
 use Rattle.words.proofs.LoopLaws.{numbers-next, numbers-end}
-use Rattle.card_model.specs.declared.Link.{Link}
-use Rattle.card_model.specs.Table.{linkAt, freeOrDamaged}
+use Rattle.card_model.specs.declared.Link.the-variants.{Free, Damaged, Last, Next, Bad}
+use Rattle.card_model.specs.Table.{fatEntry, linkOf, linkAt, freeOrDamaged}
 use Rattle.card_model.specs.Entries.{isUsed, wrongEntry, entryAt}
 use Rattle.card_model.specs.Files.{chainOf, badChain, fileOf, filesBefore, sharesBlock, isOrphan, orphans}
 use Rattle.card_model.proofs.ChainLaws.{chain-below, chain-distinct}
@@ -167,17 +167,23 @@ module _ (table : List ℕ) (directory : List (List ℕ)) where
 
   -- ---- orphans
 
-  module _ (b : ℕ) {marks : List ℕ} (m : marks ≡ fileMarks table directory 208) (h : b < 200)
-      {l : Link} (e : l ≡ linkAt table b) {free : Bool} (q : free ≡ freeOrDamaged l) where
-    orphan-is : isOrphan table directory b ≡ (not free && not (isMarked marks b))
-    unfolding isOrphan
-    orphan-is = rw (m, q, e, files-marked 208 b h)
+  in-use : (e : ℕ) → not (freeOrDamaged (linkOf e)) ≡ (not (eqb e 0xFFFC) && not (eqb e 0xFFFF))
+  unfolding linkOf
+  in-use e = go (eqb e 0xFFFC) (eqb e 0xFFFF) (eqb e 0xFFFA) (ltb e 200)
+    where
+      go : (f d l n : Bool) → not (freeOrDamaged (cond f Free (cond d Damaged (cond l Last (cond n (Next e) Bad))))) ≡ (not f && not d)
+      go true d l n = refl
+      go false true l n = refl
+      go false false true n = refl
+      go false false false true = refl
+      go false false false false = refl
 
-    pub orphan-free : free ≡ true → isOrphan table directory b ≡ false
-    orphan-free f = orphan-is ∙ rw f
-
-    pub orphan-unmarked : free ≡ false → isOrphan table directory b ≡ not (isMarked marks b)
-    orphan-unmarked f = orphan-is ∙ rw f
+  pub orphan-is : (b : ℕ) {marks : List ℕ} → marks ≡ fileMarks table directory 208 → b < 200 → (e : ℕ) → e ≡ fatEntry table b
+      → isOrphan table directory b ≡ ((not (eqb e 0xFFFC) && not (eqb e 0xFFFF)) && eqb (getD marks b 0) 0)
+  unfolding isOrphan linkAt isMarked
+  orphan-is b {marks} m h e q =
+      let unmarked = ap not (sym (files-marked 208 b h)) ∙ Bool·not-not (eqb (getD (fileMarks table directory 208) b 0) 0) in
+      rw (m, q, in-use (fatEntry table b), unmarked)
 
 -- ---- how many numbers from k on, below e, pass
 

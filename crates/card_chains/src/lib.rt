@@ -11,12 +11,12 @@ use card_directory::entry::entry_at;
 use card_directory::entry::first_block;
 use card_directory::entry::size;
 use card_directory::listing::listed_at;
-use card_table::free_or_damaged;
-use card_table::link_at;
+use card_table::fat_entry;
 use verdicts::Place;
 use verdicts::Verdict;
 use verdicts::done;
 use verdicts::refused_at;
+use words::wide;
 ghost use mathlib.Core.Path.{_≡_};
 ghost use mathlib.Core.Bool.{cond, false, true};
 ghost use Prim.Native.Nat.{ℕ, _≤_, _<_};
@@ -81,19 +81,18 @@ pub fn walk_files(card: &[u8], used: &[u8; 208], count: usize, marks: &mut [u8; 
     done()
 }
 
-// 1 for an orphan, else 0: a block that the table has in use and no file has marked.
-fn orphan_at(card: &[u8], marks: &[u8; 200], b: usize) -> usize
+// 1 for an orphan, else 0: a block that the table has in use and no file has marked. There is one test, of numbers that are read
+// in any case, so that the count is compiled to steps of several blocks.
+fn orphan_at(card: &[u8], marks: &[u8; 200], b: usize) -> u8
     requires { ⌜ (length (now card) ≡ 131072) × (b < 200) ⌝ }
     requires { ⌜ now marks ≡ fileMarks (tableOf (now card)) (directoryOf (now card)) 208 ⌝ }
     ensures { λ r. ⌜ (r ≡ cond (isOrphan (tableOf (now (card .entry))) (directoryOf (now (card .entry))) b) 1 0) × (r ≤ 1) ⌝ }
 {
-    if free_or_damaged(link_at(card, b)) {
-        return 0;
+    let e = fat_entry(card, b);
+    if ((e != 0xFFFC) & (e != 0xFFFF)) & (marks[b] == 0) {
+        return 1;
     }
-    if marks[b] != 0 {
-        return 0;
-    }
-    1
+    0
 }
 
 // How many user blocks are in use but in no file.
@@ -102,11 +101,11 @@ pub fn count_orphans(card: &[u8], marks: &[u8; 200]) -> usize
     requires { ⌜ now marks ≡ fileMarks (tableOf (now card)) (directoryOf (now card)) 208 ⌝ }
     ensures { λ r. ⌜ r ≡ orphans (tableOf (now (card .entry))) (directoryOf (now (card .entry))) ⌝ }
 {
-    let mut count: usize = 0;
+    let mut count: u8 = 0;
     let mut b = 0;
     while b < 200 {
         count += orphan_at(card, marks, b);
         b += 1;
     }
-    count
+    wide(count)
 }

@@ -44,11 +44,14 @@ loop-again c =
     let step = count-step (orphan card) (l .loop .b) 200 (omega arith) in
     (omega arith, omega arith, omega (arith, step, c .orphan-at .ensures .0, l .loop .inv .2))
 
+wide-requires : tie.Need-wide-requires Inv-loop μ-loop
+wide-requires c κs = search needs
+
 returns : tie.Need-returns Inv-loop μ-loop
 returns c =
-    let l = c .before in
+    let l = c .before .before in
     let card = l .before .before .args .card .now in
-    omega (arith, l .loop .inv .2, count-end (orphan card) (l .loop .b) 200 (omega arith))
+    omega (arith, c .wide .ensures .0, l .loop .inv .2, count-end (orphan card) (l .loop .b) 200 (omega arith))
 
 pub count-orphans-spec : {M : Type 1} → statement M
 count-orphans-spec =
@@ -62,4 +65,5 @@ count-orphans-spec =
     add-b
     loop-less
     loop-again
+    wide-requires
     returns)
