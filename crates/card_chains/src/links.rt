@@ -28,10 +28,14 @@ fn wide(e: u16) -> usize
     e as usize
 }
 
-// What the table says of a block.
+// What the table says of a block. Most blocks of a file name the next one, so that is tested first.
 pub(crate) fn link_in(table: &[u16; 256], b: usize) -> Link
     requires { ⌜ b < 256 ⌝ }
     ensures { λ r. ⌜ r ≡ linkAt (now (table .entry)) b ⌝ }
 {
-    classify(wide(table[b]))
+    let e = wide(table[b]);
+    if e < 200 {
+        return Link::Next(e);
+    }
+    classify(e)
 }
