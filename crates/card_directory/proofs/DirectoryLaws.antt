@@ -90,6 +90,10 @@ pub unused-game : (table : List ℕ) (directory : List (List ℕ)) (i : ℕ) →
 unfolding breaksGameRule
 unused-game table directory i u = rw (no-game (entryAt directory i) u)
 
+pub unused-right : (directory : List (List ℕ)) (i : ℕ) → isUsed (entryAt directory i) ≡ false → wrongEntry (entryAt directory i) ≡ false
+unfolding wrongEntry
+unused-right directory i u = rw u
+
 -- ---- what a search answered
 
 pub found-some : (o : Option ℕ) (k : ℕ) → asFound o ≡ At k → o ≡ some k

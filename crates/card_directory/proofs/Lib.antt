@@ -1,2 +1,3 @@
 pub mod DirectoryLaws
 pub mod ListedLaws
+pub mod RunLaws

@@ -17,6 +17,7 @@ use Rattle.words.proofs.LoopLaws.{lowest-here, lowest-next, lowest-end}
 use Rattle.words.proofs.ListLaws.{numbers-snoc}
 use Rattle.words.proofs.JoinLaws.{any-append}
 use Rattle.card_model.specs.Entries.{isUsed, entryAt}
+use Rattle.card_directory.specs.Runs.{Passed}
 use Rattle.card_directory.specs.Listed.{NextUsed, reached, Listed}
 
 pub reached-next : (used : List ℕ) (j i : ℕ) → i ≡ getD used j 0 → i + 1 ≡ reached used (j + 1)
@@ -31,6 +32,22 @@ module _ (directory : List (List ℕ)) where
   pub listed-start : (used : List ℕ) → length used ≡ 208 → Listed directory 0 used 0
   listed-start used e = record { long = e; fits = omega arith; each = λ j h. absurd (omega arith); rest = λ k a b. absurd (omega arith) }
 
+  later : {start i end n : ℕ} → i ≤ end → NextUsed directory start i n → NextUsed directory start end n
+  later h u = record { from-start = u .from-start; before-end = omega (arith, u .before-end); is-used = u .is-used; skipped = u .skipped }
+
+  -- no entry up to r is used
+  pub listed-on : {i r : ℕ} {used : List ℕ} {count : ℕ} → Listed directory (i + 1) used count → Passed directory i r → Listed directory r used count
+  listed-on {i} {r} {used} {count} l p = record {
+    long = l .long;
+    fits = omega (arith, l .fits, p .later);
+    each = λ j h. later (omega (arith, p .later)) (l .each j h);
+    rest = λ k a b. go k a b (ltb i k) refl;
+  }
+    where
+      go : (k : ℕ) → reached used count ≤ k → k < r → (t : Bool) → ltb i k ≡ t → isUsed (entryAt directory k) ≡ false
+      go k a b true h = p .unused k (ltb-true i k h) b
+      go k a b false h = l .rest k a (omega (arith, ltb-false i k h))
+
   -- ---- one entry more
 
   module _ (i : ℕ) {used : List ℕ} {count : ℕ} (l : Listed directory i used count) where
@@ -41,14 +58,11 @@ module _ (directory : List (List ℕ)) where
         go zero e = omega arith
         go (suc j) e = omega (arith, l .each j (omega arith) .before-end)
 
-    later : {start n : ℕ} → NextUsed directory start i n → NextUsed directory start (i + 1) n
-    later u = record { from-start = u .from-start; before-end = omega (arith, u .before-end); is-used = u .is-used; skipped = u .skipped }
-
     pub unused-next : isUsed (entryAt directory i) ≡ false → Listed directory (i + 1) used count
     unused-next u = record {
       long = l .long;
       fits = omega (arith, l .fits);
-      each = λ j h. later (l .each j h);
+      each = λ j h. later (omega arith) (l .each j h);
       rest = λ k a b. go k a b (ℕ-discrete k i);
     }
       where
@@ -72,7 +86,7 @@ module _ (directory : List (List ℕ)) where
             rw (d, new, reached-set used count i count (omega arith))
             (record { from-start = reached-before; before-end = omega arith; is-used = u; skipped = l .rest })
         go j h (no d) =
-            rw (getD-set-other used count j i 0 d, reached-set used count i j (omega arith)) (later (l .each j (omega (arith, d))))
+            rw (getD-set-other used count j i 0 d, reached-set used count i j (omega arith)) (later (omega arith) (l .each j (omega (arith, d))))
 
 -- a number of the list
 pub listed-below : {directory : List (List ℕ)} {used : List ℕ} {count : ℕ} → Listed directory 208 used count → (j i : ℕ) → i ≡ getD used j 0 → j < count → i < 208
@@ -127,6 +141,11 @@ any-snoc : (p : ℕ → Bool) (n : ℕ) → anyOf p (numbersFrom 0 (suc n)) ≡ 
 any-snoc p n =
     let z : 0 + n ≡ n = omega arith in
     ap (anyOf p) (numbers-snoc 0 n) ∙ any-append p (numbersFrom 0 n) ((0 + n) ∷ []) ∙ rw (z, or-false (p n))
+
+-- a pass that goes on from entry i to r
+pub passed-on : (directory : List (List ℕ)) (p : ℕ → Bool) → ((i : ℕ) → isUsed (entryAt directory i) ≡ false → p i ≡ false)
+    → (i r : ℕ) → Passed directory i r → p i ≡ false → firstFrom p i ≡ firstFrom p r
+passed-on directory p unused i r s q = sym (first-same p i q) ∙ between directory (firstFrom p) (λ k u. first-same p k (unused k u)) (suc i) r (s .later) (s .unused)
 
 module _ (directory : List (List ℕ)) (p : ℕ → Bool) (unused : (i : ℕ) → isUsed (entryAt directory i) ≡ false → p i ≡ false)
     {used : List ℕ} {count : ℕ} (l : Listed directory 208 used count) where

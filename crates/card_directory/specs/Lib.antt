@@ -1,3 +1,4 @@
 pub mod Found
 pub mod Listed
 pub mod Rules
+pub mod Runs

@@ -2,4 +2,5 @@
 pub mod entry;
 pub mod games;
 pub mod listing;
+mod runs;
 pub mod search;

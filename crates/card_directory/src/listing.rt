@@ -2,6 +2,7 @@
 use crate::entry::entry_at;
 use crate::entry::is_used;
 use crate::entry::wrong_entry;
+use crate::runs::pass;
 use verdicts::Place;
 use verdicts::Verdict;
 use verdicts::done;
@@ -59,7 +60,7 @@ pub fn list_used(card: &[u8], used: &mut [u8; 208]) -> UsedEntries
             };
         }
         count = put(card, used, count, i);
-        i += 1;
+        i = pass(card, i);
     }
     UsedEntries {
         verdict: done(),

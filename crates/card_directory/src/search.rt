@@ -1,6 +1,7 @@
 // Searches through the directory: by use, and by name.
 use crate::entry::entry_at;
 use crate::entry::is_used;
+use crate::runs::pass;
 use words::same;
 ghost use mathlib.Core.Path.{_≡_};
 ghost use Prim.Native.Nat.{_≤_};
@@ -27,7 +28,7 @@ pub fn first_used(card: &[u8], start: usize) -> FoundEntry
         if is_used(entry_at(card, i)) {
             return FoundEntry::At(i);
         }
-        i += 1;
+        i = pass(card, i);
     }
     FoundEntry::Nothing
 }

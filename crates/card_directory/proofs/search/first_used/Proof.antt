@@ -3,11 +3,12 @@ use Prim.Native.Nat.{ℕ, _-_}
 use mathlib.Core.Bool.{Bool}
 use mathlib.Core.Path.{_≡_, refl, sym, ap, _∙_}
 use native.Mathlib.Omega.{arith}
-use Rattle.words.proofs.LoopLaws.{lowest-here, lowest-next, lowest-end}
+use Rattle.words.proofs.LoopLaws.{lowest-here, lowest-end}
 use Rattle.card_model.specs.Layout.{directoryOf}
 use Rattle.card_model.specs.Entries.{isUsed, entryAt}
 use Rattle.card_model.specs.Calls.{firstUsed}
 use Rattle.card_directory.specs.Found.{asFound}
+use Rattle.card_directory.proofs.ListedLaws.{firstFrom, passed-on}
 use borrow.Author.Needs.{needs}
 use Rattle.card_directory.proofs.search.first_used.Statement.{statement}
 use Rattle.card_directory.proofs.search.first_used.Tie as tie
@@ -36,20 +37,21 @@ returns c =
     let e = sym (ap isUsed (c .before .before .entry-at .ensures .0)) ∙ sym (c .before .is-used .ensures) ∙ c .if1 .taken in
     ap asFound (sym (l .loop .inv ∙ lowest-here p (l .loop .i) 208 (omega arith) e))
 
-add-i : tie.Need-add-i Inv-loop μ-loop
-add-i c = search needs
+pass-requires : tie.Need-pass-requires Inv-loop μ-loop
+pass-requires c κs = search needs
 
 loop-less : tie.Need-loop-less Inv-loop μ-loop
-loop-less c = search needs
+loop-less c = omega (arith, c .pass .ensures .later, c .pass .ensures .within)
 
 loop-again : tie.Need-loop-again Inv-loop μ-loop
-unfolding firstUsed
+unfolding firstUsed firstFrom
 loop-again c =
-    let l = c .before .before .before .before in
+    let u = c .before .before in
+    let l = u .before .before .before in
     let a = l .before .before .args in
     let p : ℕ → Bool = λ j. isUsed (entryAt (directoryOf (a .card .now)) j) in
-    let e = sym (ap isUsed (c .before .before .entry-at .ensures .0)) ∙ sym (c .before .is-used .ensures) ∙ c .if1 .left in
-    l .loop .inv ∙ lowest-next p (l .loop .i) 208 (omega arith) e
+    let e = sym (ap isUsed (u .before .entry-at .ensures .0)) ∙ sym (u .is-used .ensures) ∙ c .before .if1 .left in
+    l .loop .inv ∙ passed-on _ p (λ i q. q) (l .loop .i) _ (c .pass .ensures) e
 
 returns-2 : tie.Need-returns-2 Inv-loop μ-loop
 unfolding firstUsed
@@ -69,7 +71,7 @@ first-used-spec =
     entry-at-requires
     is-used-requires
     returns
-    add-i
+    pass-requires
     loop-less
     loop-again
     returns-2)
