@@ -14,7 +14,7 @@ use Rattle.card_model.specs.Entries.{wrongEntry, entryAt, entryRow, nameRow}
 use Rattle.card_model.specs.Files.{chainRow, sharingRow, gameRow}
 use Rattle.card_model.specs.Calls.{lengthRow, tableRows, directoryRows, verdictOf}
 use Rattle.card_model.proofs.SoundLaws.{unless-accepts, at-accepts, below-accepts}
-use Rattle.card_directory.specs.Rules.{GoodChains}
+use Rattle.card_games.specs.Rules.{GoodChains}
 use Rattle.card_chains.specs.Marks.{chainRows}
 
 passed : (r v : Verdict) → r ≡ v → r .number ≡ 0 → accepted v ≡ true

@@ -8,12 +8,12 @@ use Rattle.verdicts.specs.declared.Place.the-variants.{Entry}
 use Rattle.verdicts.specs.Rows.{rowOver}
 use Rattle.card_model.specs.Layout.{tableOf, directoryOf}
 use Rattle.card_model.specs.Files.{breaksGameRule, gameRow}
 use Rattle.card_directory.specs.Listed.{reached}
-use Rattle.card_directory.proofs.DirectoryLaws.{unused-game}
+use Rattle.card_games.proofs.GameLaws.{unused-game}
 use Rattle.card_directory.proofs.ListedLaws.{firstFrom, listed-below, found-here, found-later, found-none}
 use borrow.Author.Needs.{needs}
-use Rattle.card_directory.proofs.games.game_row.Statement.{statement}
-use Rattle.card_directory.proofs.games.game_row.Tie as tie
+use Rattle.card_games.proofs.game_row.Statement.{statement}
+use Rattle.card_games.proofs.game_row.Tie as tie
 
 abbrev breaks : List ℕ → ℕ → Bool
 breaks card = breaksGameRule (tableOf card) (directoryOf card)

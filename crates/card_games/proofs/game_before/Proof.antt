@@ -8,8 +8,8 @@ use Rattle.words.proofs.LoopLaws.{any-here, any-next, any-end}
 use Rattle.card_model.specs.Layout.{directoryOf}
 use Rattle.card_model.specs.Entries.{isGame, entryAt}
 use borrow.Author.Needs.{needs}
-use Rattle.card_directory.proofs.games.game_before.Statement.{statement}
-use Rattle.card_directory.proofs.games.game_before.Tie as tie
+use Rattle.card_games.proofs.game_before.Statement.{statement}
+use Rattle.card_games.proofs.game_before.Tie as tie
 
 abbrev Inv-loop : tie.InvT-loop
 Inv-loop card i j₀ j =

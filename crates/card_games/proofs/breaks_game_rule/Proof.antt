@@ -8,10 +8,10 @@ use native.Mathlib.Omega.{arith}
 use Rattle.card_model.specs.Layout.{tableOf, directoryOf}
 use Rattle.card_model.specs.Entries.{firstBlock, size}
 use Rattle.card_model.specs.Files.{chain, orEmpty, rising}
-use Rattle.card_directory.proofs.DirectoryLaws.{game-chain, game-rule}
+use Rattle.card_games.proofs.GameLaws.{game-chain, game-rule}
 use borrow.Author.Needs.{needs}
-use Rattle.card_directory.proofs.games.breaks_game_rule.Statement.{statement}
-use Rattle.card_directory.proofs.games.breaks_game_rule.Tie as tie
+use Rattle.card_games.proofs.breaks_game_rule.Statement.{statement}
+use Rattle.card_games.proofs.breaks_game_rule.Tie as tie
 
 entry-at-requires : tie.Need-entry-at-requires
 entry-at-requires c κs = search needs

@@ -1,9 +1,9 @@
-// The game rule, refusal 30.
-use crate::entry::entry_at;
-use crate::entry::first_block;
-use crate::entry::is_game;
-use crate::entry::size;
-use crate::listing::listed_at;
+// The game rule: refusal 30, over the list of the used entries.
+use card_directory::entry::entry_at;
+use card_directory::entry::first_block;
+use card_directory::entry::is_game;
+use card_directory::entry::size;
+use card_directory::listing::listed_at;
 use card_table::fat_entry;
 use verdicts::Place;
 use verdicts::Verdict;
@@ -17,8 +17,8 @@ ghost use Rattle.words.specs.Lists.{anyOf, isSome, numbersFrom};
 ghost use Rattle.card_model.specs.Layout.{tableOf, directoryOf};
 ghost use Rattle.card_model.specs.Entries as model;
 ghost use Rattle.card_model.specs.Files.{chain, orEmpty, rising, breaksGameRule, gameRow};
-ghost use Rattle.card_directory.specs.Rules.{GoodChains};
+ghost use Rattle.card_games.specs.Rules.{GoodChains};
 ghost use Rattle.card_directory.specs.Listed.{Listed};
 
 // Whether an entry before i is a game.
 fn game_before(card: &[u8], i: usize) -> bool

@@ -8,10 +8,10 @@ use Rattle.words.specs.Lists.{isSome}
 use Rattle.card_model.specs.Layout.{tableOf}
 use Rattle.card_model.specs.Table.{fatEntry}
 use Rattle.card_model.specs.Files.{chain, orEmpty, rising}
-use Rattle.card_directory.proofs.DirectoryLaws.{goes-on, ends}
+use Rattle.card_games.proofs.GameLaws.{goes-on, ends}
 use borrow.Author.Needs.{needs}
-use Rattle.card_directory.proofs.games.rises.Statement.{statement}
-use Rattle.card_directory.proofs.games.rises.Tie as tie
+use Rattle.card_games.proofs.rises.Statement.{statement}
+use Rattle.card_games.proofs.rises.Tie as tie
 
 abbrev Inv-loop : tie.InvT-loop
 Inv-loop card blocks b₀ b =
