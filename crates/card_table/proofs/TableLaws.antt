@@ -1,21 +1,30 @@
 -- The table as the card's bytes give it, and its rows one after the other. Assumes nothing.
-use Prim.Native.Nat.{ℕ, _+_, _*_, _≤_, _<_}
+use Prim.Native.Nat.{ℕ, _+_, _-_, _*_, _≤_, _<_}
 use mathlib.Core.Path.{_≡_, sym, ap, _∙_}
-use mathlib.Core.List.{List}
+use mathlib.Core.Bool.{Bool, true, not}
+use mathlib.Core.List.{List, map}
+use mathlib.Core.Option.{none}
 use native.Mathlib.Omega.{arith}
-use borrow.Author.Tests.{eq-eqb}
-use lib.ListN.{length}
+use borrow.Author.Tests.{eq-eqb, not-true}
+use native.Mathlib.Decide.{ℕ-discrete}
+use lib.ListN.{length, getD, take, drop, set, length-set, length-map}
+use lib.Seq.{getD-take, getD-drop, getD-set-same, getD-set-other, ext-getD}
+use Rattle.words.specs.Lists.{anyOf, numbersFrom}
+use Rattle.words.specs.Search.{lowest}
 use Rattle.words.specs.Words.{word}
 use Rattle.words.proofs.ListLaws.{range-at}
+use Rattle.words.proofs.JoinLaws.{none-range}
+use Rattle.words.proofs.PartsLaws.{numbers-length}
+use Rattle.words.proofs.SearchLaws.{lowest-nothing}
 use Rattle.verdicts.specs.declared.Verdict.{Verdict}
 use Rattle.verdicts.specs.Rows.{unlessRefused}
 use Rattle.verdicts.proofs.RowLaws.{refused-first, not-refused, rows-joined}
 use Rattle.card_model.specs.Layout.{cardLength, fatPlace, tableOf}
-use Rattle.card_model.specs.Table.{fatEntry, magicRow, fieldsRow, systemRow, hiddenRow, userRow}
+use Rattle.card_model.specs.Table.{fatEntry, magicRow, fieldsRow}
 use Rattle.card_model.specs.Calls.{lengthRow, tableRows}
 use Rattle.card_table.specs.declared.Region.{Region}
 use Rattle.card_table.specs.declared.Region.the-variants.{System, Hidden, User}
-use Rattle.card_table.specs.Regions.{Ready}
+use Rattle.card_table.specs.Regions.{Ready, entryRows}
 
 pub entry-word : (card : List ℕ) (b : ℕ) → b < 256 → word card (130048 + 2 * b) ≡ fatEntry (tableOf card) b
 unfolding fatEntry tableOf fatPlace
@@ -23,11 +32,41 @@ entry-word card b h =
     let e : 0 + b ≡ b = omega arith in
     sym (range-at (λ i. word card (fatPlace i)) 0 256 b 0 h ∙ ap (λ (i : ℕ). word card (fatPlace i)) e)
 
+-- of an entry's two bytes, as a part
+pub part-word : (card : List ℕ) (at : ℕ) → word (take (at + 2 - at) (drop at card)) 0 ≡ word card at
+unfolding word
+part-word card at =
+    let e : at + 2 - at ≡ 2 = omega arith in
+    let z : at + 0 ≡ at = omega arith in
+    rw e
+    (rw (getD-take 2 (drop at card) 0 0 (omega arith), getD-take 2 (drop at card) (0 + 1) 0 (omega arith), getD-drop at card 0 0, getD-drop at card (0 + 1) 0, z))
+
+-- entries that are read one after the other
+abbrev pub ReadTo : List ℕ → List ℕ → ℕ → Type 0
+ReadTo card table end = (length table ≡ 256) × ((j : ℕ) → j < end → getD table j 0 ≡ fatEntry (tableOf card) j)
+
+pub read-next : (card table : List ℕ) (b : ℕ) → b < 256 → ReadTo card table b → (x : ℕ) → x ≡ fatEntry (tableOf card) b → ReadTo card (set table b x) (b + 1)
+read-next card table b l h x q = (length-set table b x ∙ h .0, λ j k. go j k (ℕ-discrete j b))
+  where
+    go : (j : ℕ) → j < b + 1 → Dec (j ≡ b) → getD (set table b x) j 0 ≡ fatEntry (tableOf card) j
+    go j k (yes d) = rw d (getD-set-same table b x 0 (omega (arith, h .0)) ∙ q)
+    go j k (no d) = getD-set-other table b j x 0 d ∙ h .1 j (omega (arith, d))
+
+pub read-all : (card table : List ℕ) (b : ℕ) → 256 ≤ b → ReadTo card table b → table ≡ tableOf card
+unfolding fatEntry tableOf
+read-all card table b e h =
+    let n : length (map (λ i. word card (fatPlace i)) (numbersFrom 0 256)) ≡ 256 = length-map (numbersFrom 0 256) (λ i. word card (fatPlace i)) ∙ numbers-length 0 256 in
+    ext-getD 0 table (map (λ i. word card (fatPlace i)) (numbersFrom 0 256)) (h .0 ∙ sym n) (λ i k. h .1 i (omega (arith, h .0)))
+
 -- what a region asks of its first block it has of every later one
 pub ready-later : (region : Region) (a b : ℕ) → a ≤ b → Ready region a → Ready region b
 ready-later System a b h r = omega arith
 ready-later Hidden a b h r = tt
 ready-later User a b h r = tt
+
+-- where no number of a range passes the test, none is found
+pub none-wrong : (p : ℕ → Bool) (a n : ℕ) (r : Bool) → r ≡ anyOf p (numbersFrom a n) → not r ≡ true → lowest p a n ≡ none
+none-wrong p a n r e t = lowest-nothing p a n (none-range p a n (sym e ∙ not-true r t))
 
 pub after-length : (card : List ℕ) (later : Verdict) → length card ≡ 131072 → unlessRefused (lengthRow card) later ≡ later
 unfolding lengthRow cardLength
@@ -39,6 +78,6 @@ module _ (root table : List ℕ) (r : Verdict) (e : r ≡ unlessRefused (magicRo
   unfolding tableRows
   root-refused n = sym (rows-joined (magicRow root) (fieldsRow root) _) ∙ refused-first _ _ r e n
 
-  pub root-passed : r .number ≡ 0 → tableRows root table ≡ unlessRefused (systemRow table) (unlessRefused (hiddenRow table) (userRow table))
-  unfolding tableRows
+  pub root-passed : r .number ≡ 0 → tableRows root table ≡ entryRows table
+  unfolding tableRows entryRows
   root-passed n = sym (rows-joined (magicRow root) (fieldsRow root) _) ∙ not-refused _ _ r e n

@@ -1,9 +1,11 @@
--- The tests of rows 23 to 25, by region.
+-- The tests of rows 23 to 25, by region, and these rows one after the other.
 -- Assumes nothing.
 use Prim.Native.Nat.{ℕ, _≤_}
 use mathlib.Core.Bool.{Bool}
 use mathlib.Core.List.{List}
-use Rattle.card_model.specs.Table.{wrongSystem, wrongHidden, wrongUser}
+use Rattle.verdicts.specs.declared.Verdict.{Verdict}
+use Rattle.verdicts.specs.Rows.{unlessRefused}
+use Rattle.card_model.specs.Table.{wrongSystem, wrongHidden, wrongUser, systemRow, hiddenRow, userRow}
 use Rattle.card_table.specs.declared.Region.{Region}
 use Rattle.card_table.specs.declared.Region.the-variants.{System, Hidden, User}
 
@@ -17,3 +19,6 @@ abbrev pub Ready : Region → ℕ → Type 0
 Ready System b = 1 ≤ b
 Ready Hidden b = Unit {0}
 Ready User b = Unit {0}
+
+unfoldable pub entryRows : List ℕ → Verdict
+entryRows table = unlessRefused (systemRow table) (unlessRefused (hiddenRow table) (userRow table))

@@ -9,13 +9,14 @@ use words::word;
 ghost use mathlib.Core.Path.{_≡_};
 ghost use Prim.Native.Nat.{_-_, _≤_, _<_};
 ghost use lib.ListN.{length};
+ghost use Rattle.words.specs.Lists.{anyOf, numbersFrom};
 ghost use Rattle.words.specs.Search.{lowest};
 ghost use Rattle.verdicts.specs.declared.Place.the-variants.{Block};
 ghost use Rattle.verdicts.specs.Rows.{rowOver, unlessRefused};
 ghost use Rattle.card_model.specs.Layout.{rootOf, tableOf};
 ghost use Rattle.card_model.specs.Table.{magicRow, fieldsRow, rightFields, fatEntry, linkOf, linkAt, systemEntry, freeOrDamaged, isBad};
 ghost use Rattle.card_model.specs.Calls.{lengthRow, tableRows};
-ghost use Rattle.card_table.specs.Regions.{wrongIn, Ready};
+ghost use Rattle.card_table.specs.Regions.{wrongIn, Ready, entryRows};
 
 const LENGTH: usize = 131072;
 
@@ -30,12 +31,28 @@ pub(crate) enum Region {
     User,
 }
 
-// The table's entry of a block.
+// The table's entry of a block. It is read from a part of its own, so that its two bytes are one load.
 pub fn fat_entry(card: &[u8], b: usize) -> usize
     requires { ⌜ (length (now card) ≡ 131072) × (b < 256) ⌝ }
     ensures { λ r. ⌜ (r ≡ fatEntry (tableOf (now (card .entry))) b) × (r < 65536) ⌝ }
 {
-    word(card, TABLE + 2 * b)
+    let at = TABLE + 2 * b;
+    let end = at + 2;
+    word(&card[at..end], 0)
+}
+
+// The whole table. Its numbers have no more than their two bytes, so that a loop over it is compiled to steps of several entries.
+fn read_table(card: &[u8]) -> [u16; 256]
+    requires { ⌜ length (now card) ≡ 131072 ⌝ }
+    ensures { λ r. ⌜ r ≡ tableOf (now (card .entry)) ⌝ }
+{
+    let mut table = [0u16; 256];
+    let mut b = 0;
+    while b < 256 {
+        table[b] = fat_entry(card, b) as u16;
+        b += 1;
+    }
+    table
 }
 
 // The class of a table entry.
@@ -94,32 +111,67 @@ fn system_entry(b: usize) -> usize
     b - 1
 }
 
-fn is_wrong(card: &[u8], region: Region, b: usize) -> bool
-    requires { ⌜ (length (now card) ≡ 131072) × (b < 256) ⌝ }
+fn is_wrong(table: &[u16], region: Region, b: usize) -> bool
+    requires { ⌜ (length (now table) ≡ 256) × (b < 256) ⌝ }
     requires { ⌜ Ready region b ⌝ }
-    ensures { λ r. ⌜ r ≡ wrongIn region (tableOf (now (card .entry))) b ⌝ }
+    ensures { λ r. ⌜ r ≡ wrongIn region (now (table .entry)) b ⌝ }
 {
+    let e = table[b] as usize;
     match region {
-        Region::System => fat_entry(card, b) != system_entry(b),
-        Region::Hidden => !free_or_damaged(link_at(card, b)),
-        Region::User => is_bad(link_at(card, b)),
+        Region::System => e != system_entry(b),
+        Region::Hidden => !free_or_damaged(classify(e)),
+        Region::User => is_bad(classify(e)),
     }
 }
 
-// The refusal of this number at the first wrong block of a range.
-fn row(card: &[u8], region: Region, number: u8, from: usize, to: usize) -> Verdict
-    requires { ⌜ (length (now card) ≡ 131072) × (to ≤ 256) ⌝ }
+// Whether a block of a range is wrong. The loop has no way out, so that it is compiled to steps of several entries.
+fn any_wrong(table: &[u16], region: Region, from: usize, to: usize) -> bool
+    requires { ⌜ (length (now table) ≡ 256) × (to ≤ 256) ⌝ }
     requires { ⌜ Ready region from ⌝ }
-    ensures { λ r. ⌜ r ≡ rowOver number Block (lowest (wrongIn region (tableOf (now (card .entry)))) from (to - from)) ⌝ }
+    ensures { λ r. ⌜ r ≡ anyOf (wrongIn region (now (table .entry))) (numbersFrom from (to - from)) ⌝ }
 {
+    let mut wrong = false;
     let mut b = from;
     while b < to {
-        if is_wrong(card, region, b) {
+        wrong = wrong | is_wrong(table, region, b);
+        b += 1;
+    }
+    wrong
+}
+
+// The refusal of this number at the first wrong block of a range, which is looked for only where there is one.
+fn row(table: &[u16], region: Region, number: u8, from: usize, to: usize) -> Verdict
+    requires { ⌜ (length (now table) ≡ 256) × (to ≤ 256) ⌝ }
+    requires { ⌜ Ready region from ⌝ }
+    ensures { λ r. ⌜ r ≡ rowOver number Block (lowest (wrongIn region (now (table .entry))) from (to - from)) ⌝ }
+{
+    if !any_wrong(table, region, from, to) {
+        return done();
+    }
+    let mut b = from;
+    while b < to {
+        if is_wrong(table, region, b) {
             return refused_at(number, Place::Block(b));
         }
         b += 1;
     }
     done()
+}
+
+// Refusals 23 to 25.
+fn entries_verdict(table: &[u16]) -> Verdict
+    requires { ⌜ length (now table) ≡ 256 ⌝ }
+    ensures { λ r. ⌜ r ≡ entryRows (now (table .entry)) ⌝ }
+{
+    let system = row(table, Region::System, 23, 241, 256);
+    if system.number != 0 {
+        return system;
+    }
+    let hidden = row(table, Region::Hidden, 24, 200, 241);
+    if hidden.number != 0 {
+        return hidden;
+    }
+    row(table, Region::User, 25, 0, 200)
 }
 
 fn right_fields(root: &[u8]) -> bool
@@ -158,13 +210,6 @@ pub fn table_verdict(card: &[u8]) -> Verdict
     if root.number != 0 {
         return root;
     }
-    let system = row(card, Region::System, 23, 241, 256);
-    if system.number != 0 {
-        return system;
-    }
-    let hidden = row(card, Region::Hidden, 24, 200, 241);
-    if hidden.number != 0 {
-        return hidden;
-    }
-    row(card, Region::User, 25, 0, 200)
+    let table = read_table(card);
+    entries_verdict(&table)
 }

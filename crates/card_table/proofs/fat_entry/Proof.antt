@@ -1,23 +1,40 @@
 -- `fat_entry` meets its contract. Assumes nothing.
 use mathlib.Core.Path.{_∙_}
-use Rattle.card_table.proofs.TableLaws.{entry-word}
+use Rattle.card_table.proofs.TableLaws.{part-word, entry-word}
 use borrow.Author.Needs.{needs}
 use Rattle.card_table.proofs.fat_entry.Statement.{statement}
 use Rattle.card_table.proofs.fat_entry.Tie as tie
+use Rattle.card_table.proofs.fat_entry.Reads as reads
+use Rattle.card_table.proofs.fat_entry.Lts as lts
+use Rattle.words.proofs.word.Reads as word-reads
 
-mul-word : tie.Need-mul-word
-mul-word c = search needs
+mul-at : tie.Need-mul-at
+mul-at c = search needs
 
-add-word : tie.Need-add-word
-add-word c = search needs
+add-at : tie.Need-add-at
+add-at c = search needs
+
+add-end : tie.Need-add-end
+add-end c = search needs
+
+sub-word : tie.Need-sub-word
+sub-word c = search needs
+
+part-word-start : tie.Need-part-word-start
+part-word-start c = search needs
+
+part-word-end : tie.Need-part-word-end
+part-word-end c = search needs
 
 word-requires : tie.Need-word-requires
 word-requires c κs = search needs
 
 returns : tie.Need-returns
 returns c =
-    let a = c .before .before in
-    (c .word .ensures .0 ∙ entry-word (a .args .card .now) (a .args .b) (a .pre .1), c .word .ensures .1)
+    let a = c .before .before .before in
+    (c .word .ensures .0 ∙ part-word _ _ ∙ entry-word (a .args .card .now) (a .args .b) (a .pre .1), c .word .ensures .1)
 
 pub fat-entry-spec : {M : Type 1} → statement M
-fat-entry-spec = tie.close (tie.spec mul-word add-word word-requires returns)
+fat-entry-spec =
+    tie.close
+    (tie.spec mul-at add-at add-end sub-word part-word-start part-word-end word-requires returns)

@@ -1,28 +1,35 @@
 -- `is_wrong` meets its contract: one arm for each region. Assumes nothing.
 use mathlib.Core.Path.{subst}
+use native.Mathlib.Omega.{arith}
 use Rattle.card_table.specs.declared.Region.{Region}
 use Rattle.card_table.specs.Regions.{Ready}
-use Rattle.card_model.specs.Table.{wrongSystem, wrongHidden, wrongUser}
+use Rattle.card_model.specs.Table.{fatEntry, linkAt, wrongSystem, wrongHidden, wrongUser}
 use borrow.Author.Needs.{needs}
 use Rattle.card_table.proofs.is_wrong.Statement.{statement}
 use Rattle.card_table.proofs.is_wrong.Tie as tie
 
+mul-e : tie.Need-mul-e
+mul-e c = search needs
+
+shared-slice-read-e : tie.Need-shared-slice-read-e
+shared-slice-read-e c = search needs
+
+cast-e : tie.Need-cast-e
+cast-e c = omega (arith, c .shared-slice-known2 .given (c .before .before .args .b))
+
 enum-told : tie.Need-enum-told
 enum-told c = search needs
-
-fat-entry-requires : tie.Need-fat-entry-requires
-fat-entry-requires c κs = search needs
 
 system-entry-requires : tie.Need-system-entry-requires
 system-entry-requires c κs =
     let a = c .before .before .before .before in
-    subst (λ (r : Region). Ready r (a .args .b)) (c .before .enum-told .given .1) (a .pre .1)
+    subst (λ (r : Region). Ready r (a .args .b)) (c .enum-told .given .1) (a .pre .1)
 
 enum-told-2 : tie.Need-enum-told-2
 enum-told-2 c = search needs
 
-link-at-requires : tie.Need-link-at-requires
-link-at-requires c κs = search needs
+classify-requires : tie.Need-classify-requires
+classify-requires c κs = search needs
 
 free-or-damaged-requires : tie.Need-free-or-damaged-requires
 free-or-damaged-requires c κs = search needs
@@ -30,36 +37,38 @@ free-or-damaged-requires c κs = search needs
 enum-told-3 : tie.Need-enum-told-3
 enum-told-3 c = search needs
 
-link-at-requires-2 : tie.Need-link-at-requires-2
-link-at-requires-2 c κs = search needs
+classify-requires-2 : tie.Need-classify-requires-2
+classify-requires-2 c κs = search needs
 
 is-bad-requires : tie.Need-is-bad-requires
 is-bad-requires c κs = search needs
 
 returns : tie.Need-returns
-unfolding wrongSystem
-returns c = rw (c .before .before .enum-told .given .1, c .before .fat-entry .ensures .0, c .system-entry .ensures)
+unfolding wrongSystem fatEntry
+returns c = rw (c .before .enum-told .given .1, c .system-entry .ensures)
 
 returns-2 : tie.Need-returns-2
-unfolding wrongHidden
-returns-2 c = rw (c .before .before .enum-told2 .given .1, c .free-or-damaged .ensures, c .before .link-at .ensures)
+unfolding wrongHidden linkAt fatEntry
+returns-2 c = rw (c .before .before .enum-told2 .given .1, c .free-or-damaged .ensures, c .before .classify .ensures)
 
 returns-3 : tie.Need-returns-3
-unfolding wrongUser
-returns-3 c = rw (c .before .before .enum-told3 .given .1, c .is-bad .ensures, c .before .link-at2 .ensures)
+unfolding wrongUser linkAt fatEntry
+returns-3 c = rw (c .before .before .enum-told3 .given .1, c .is-bad .ensures, c .before .classify2 .ensures)
 
 pub is-wrong-spec : {M : Type 1} → statement M
 is-wrong-spec =
     tie.close
     (tie.spec
+    mul-e
+    shared-slice-read-e
+    cast-e
     enum-told
-    fat-entry-requires
     system-entry-requires
     enum-told-2
-    link-at-requires
+    classify-requires
     free-or-damaged-requires
     enum-told-3
-    link-at-requires-2
+    classify-requires-2
     is-bad-requires
     returns
     returns-2

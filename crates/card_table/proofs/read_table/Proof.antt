@@ -1,0 +1,63 @@
+-- `read_table` meets its contract: the entries so far are the table's. Assumes nothing.
+use Prim.Native.Nat.{_-_}
+use mathlib.Core.Path.{refl}
+use native.Mathlib.Omega.{arith}
+use Rattle.card_table.proofs.TableLaws.{ReadTo, read-next, read-all}
+use borrow.Author.Needs.{needs}
+use Rattle.card_table.proofs.read_table.Statement.{statement}
+use Rattle.card_table.proofs.read_table.Tie as tie
+use Rattle.card_table.proofs.read_table.Reads as reads
+use Rattle.card_table.proofs.read_table.Lts as lts
+
+abbrev Inv-loop : tie.InvT-loop
+Inv-loop card table₀ b₀ table b = ReadTo card table b
+
+abbrev μ-loop : tie.MeasureT-loop
+μ-loop card table₀ b₀ table b = 256 - b
+
+loop-holds : tie.Need-loop-holds Inv-loop μ-loop
+loop-holds c = (refl, λ j h. absurd (omega arith))
+
+fat-entry-requires : tie.Need-fat-entry-requires Inv-loop μ-loop
+fat-entry-requires c κs = search needs
+
+cast-table : tie.Need-cast-table Inv-loop μ-loop
+cast-table c = search needs
+
+mul-table : tie.Need-mul-table Inv-loop μ-loop
+mul-table c = search needs
+
+array-write-table : tie.Need-array-write-table Inv-loop μ-loop
+array-write-table c = search needs
+
+add-b : tie.Need-add-b Inv-loop μ-loop
+add-b c = search needs
+
+loop-less : tie.Need-loop-less Inv-loop μ-loop
+loop-less c = search needs
+
+loop-again : tie.Need-loop-again Inv-loop μ-loop
+loop-again c =
+    let l = c .before .before in
+    read-next (l .before .before .args .card .now) (l .loop .table) (l .loop .b) (omega arith) (l .loop .inv) _ (c .fat-entry .ensures .0)
+
+returns : tie.Need-returns Inv-loop μ-loop
+returns c =
+    let l = c .before in
+    read-all (l .before .before .args .card .now) (l .loop .table) (l .loop .b) (omega arith) (l .loop .inv)
+
+pub read-table-spec : {M : Type 1} → statement M
+read-table-spec =
+    tie.close
+    (tie.spec
+    Inv-loop
+    μ-loop
+    loop-holds
+    fat-entry-requires
+    cast-table
+    mul-table
+    array-write-table
+    add-b
+    loop-less
+    loop-again
+    returns)
