@@ -1,8 +1,8 @@
 -- Fingerprints of names: a shortcut of the search for row 29, and no part of what it means.
 -- Assumes nothing.
-use Prim.Native.Nat.{ℕ, _+_, _-_, _*_, _<_}
+use Prim.Native.Nat.{ℕ, _+_, _-_, _*_, _/_, _%_, _<_}
 use mathlib.Core.Path.{_≡_}
-use mathlib.Core.Bool.{cond}
+use mathlib.Core.Bool.{true, cond}
 use mathlib.Core.List.{List}
 use mathlib.Core.Option.{Option}
 use lib.ListN.{getD}
@@ -10,17 +10,25 @@ use Rattle.words.specs.Search.{lowest}
 use Rattle.words.specs.Words.{word}
 use Rattle.card_model.specs.Entries.{nameOf, isUsed, entryAt, nameTaken}
 
+-- Four bytes as a number.
+unfoldable pub quad : List ℕ → ℕ → ℕ
+quad name i = word name i + 65536 * word name (i + 2)
+
 -- Any function of the name would do, since names of the same fingerprint are compared.
 unfoldable pub fingerprint : List ℕ → ℕ
-fingerprint name =
-    5003 * word name 0 + 7919 * word name 2 + 9973 * word name 4 + (11657 * word name 6 + 13931 * word name 8 + 16901 * word name 10)
+fingerprint name = (747796405 * quad name 0 + 843314857 * quad name 4 + 668265263 * quad name 8) / 16777216 % 4294967296
 
 unfoldable pub printOf : List ℕ → ℕ
 printOf entry = cond (isUsed entry) (fingerprint (nameOf entry)) 0
 
--- The first `end` numbers are the fingerprints of the first `end` entries.
-abbrev pub Printed : List (List ℕ) → List ℕ → ℕ → Type 0
-Printed directory prints end = (j : ℕ) → j < end → getD prints j 0 ≡ printOf (entryAt directory j)
+-- The place of a fingerprint's mark.
+unfoldable pub slot : ℕ → ℕ
+slot print = print % 2048
+
+-- The fingerprint of each used entry before `end` is among the numbers, and its mark is set.
+abbrev pub Entered : List (List ℕ) → List ℕ → List ℕ → ℕ → Type 0
+Entered directory prints marks end = (j : ℕ) → j < end → isUsed (entryAt directory j) ≡ true
+    → (getD prints j 0 ≡ printOf (entryAt directory j)) × (getD marks (slot (printOf (entryAt directory j))) 0 ≡ 1)
 
 -- The first entry from `start` on whose name is taken.
 unfoldable pub firstTaken : List (List ℕ) → ℕ → Option ℕ

@@ -1,4 +1,5 @@
-// Refusal 29. Each name has a fingerprint, one number: names are compared only where an earlier fingerprint is the same.
+// Refusal 29. Each name has a fingerprint, one number, and each fingerprint a mark, one byte of a field of marks: fingerprints are
+// compared only where the mark is set, and names only where an earlier fingerprint is the same.
 use card_directory::entry::entry_at;
 use card_directory::entry::is_used;
 use card_directory::search::FoundEntry;
@@ -9,23 +10,30 @@ use verdicts::done;
 use verdicts::refused_at;
 use words::word;
 ghost use mathlib.Core.Path.{_≡_};
-ghost use Prim.Native.Nat.{_+_, _<_};
+ghost use Prim.Native.Nat.{_+_, _≤_, _<_};
 ghost use lib.Dec.{eqb};
 ghost use lib.ListN.{length, getD};
 ghost use Rattle.words.specs.Lists.{anyOf, numbersFrom};
 ghost use Rattle.card_model.specs.Layout.{directoryOf};
-ghost use Rattle.card_model.specs.Entries.{nameTaken, nameRow};
+ghost use Rattle.card_model.specs.Entries.{entryAt, nameTaken, nameRow};
 ghost use Rattle.card_names.specs.Prints as shortcut;
 
-// Any function of the name would do. These weights add up to less than 65536, so that the sum fits, and by them similar names
-// seldom have the same one.
+// Four bytes as a number.
+fn quad(name: &[u8], i: usize) -> usize
+    requires { ⌜ i + 3 < length (now name) ⌝ }
+    ensures { λ r. ⌜ (r ≡ shortcut.quad (now (name .entry)) i) × (r < 4294967296) ⌝ }
+{
+    word(name, i) + 65536 * word(name, i + 2)
+}
+
+// Any function of the name would do. The factors are below 2^30, so that the sum fits, and the middle of the sum depends on every
+// byte, so that similar names seldom have the same fingerprint or the same mark.
 fn fingerprint(name: &[u8]) -> u32
     requires { ⌜ length (now name) ≡ 12 ⌝ }
     ensures { λ r. ⌜ r ≡ shortcut.fingerprint (now (name .entry)) ⌝ }
 {
-    let front = 5003 * word(name, 0) + 7919 * word(name, 2) + 9973 * word(name, 4);
-    let back = 11657 * word(name, 6) + 13931 * word(name, 8) + 16901 * word(name, 10);
-    (front + back) as u32
+    let sum = 747796405 * quad(name, 0) + 843314857 * quad(name, 4) + 668265263 * quad(name, 8);
+    (sum / 16777216 % 4294967296) as u32
 }
 
 // The fingerprint of an entry's name, 0 for an unused entry.
@@ -39,32 +47,41 @@ fn print_of(entry: &[u8]) -> u32
     fingerprint(&entry[4..16])
 }
 
-// Whether an earlier number is the same as number i. The loop has no way out, so that it is compiled to steps of several numbers.
-fn is_seen(prints: &[u32; 208], i: usize) -> bool
-    requires { ⌜ i < 208 ⌝ }
-    ensures { λ r. ⌜ r ≡ anyOf (λ j. eqb (getD (now (prints .entry)) j 0) (getD (now (prints .entry)) i 0)) (numbersFrom 0 i) ⌝ }
+// The place of a fingerprint's mark.
+fn slot(print: u32) -> usize
+    ensures { λ r. ⌜ (r ≡ shortcut.slot print) × (r < 2048) ⌝ }
 {
-    let print = prints[i];
+    (print % 2048) as usize
+}
+
+// Whether one of the first numbers is this one. The loop has no way out, so that it is compiled to steps of several numbers.
+fn is_seen(prints: &[u32; 208], end: usize, print: u32) -> bool
+    requires { ⌜ end ≤ 208 ⌝ }
+    ensures { λ r. ⌜ r ≡ anyOf (λ j. eqb (getD (now (prints .entry)) j 0) print) (numbersFrom 0 end) ⌝ }
+{
     let mut seen = false;
     let mut j = 0;
-    while j < i {
+    while j < end {
         seen = seen | (prints[j] == print);
         j += 1;
     }
     seen
 }
 
-// Refusal 29's test. Names that differ may share a fingerprint, so an earlier one alone tells nothing.
-fn name_taken(card: &[u8], prints: &[u32; 208], i: usize) -> bool
+// Refusal 29's test of an entry with this fingerprint. Names that differ may share a mark, and even a fingerprint.
+fn name_taken(card: &[u8], prints: &[u32; 208], marks: &[u8; 2048], i: usize, print: u32) -> bool
     requires { ⌜ (length (now card) ≡ 131072) × (i < 208) ⌝ }
-    requires { ⌜ shortcut.Printed (directoryOf (now card)) (now prints) (i + 1) ⌝ }
+    requires { ⌜ shortcut.Entered (directoryOf (now card)) (now prints) (now marks) i × (print ≡ shortcut.printOf (entryAt (directoryOf (now card)) i)) ⌝ }
     ensures { λ r. ⌜ r ≡ nameTaken (directoryOf (now (card .entry))) i ⌝ }
 {
     let entry = entry_at(card, i);
     if !is_used(entry) {
         return false;
     }
-    if !is_seen(prints, i) {
+    if marks[slot(print)] == 0 {
+        return false;
+    }
+    if !is_seen(prints, i, print) {
         return false;
     }
     match find_named(card, &entry[4..16], i) {
@@ -79,12 +96,15 @@ pub fn name_row(card: &[u8]) -> Verdict
     ensures { λ r. ⌜ r ≡ nameRow (directoryOf (now (card .entry))) ⌝ }
 {
     let mut prints = [0u32; 208];
+    let mut marks = [0u8; 2048];
     let mut i = 0;
     while i < 208 {
-        prints[i] = print_of(entry_at(card, i));
-        if name_taken(card, &prints, i) {
+        let print = print_of(entry_at(card, i));
+        if name_taken(card, &prints, &marks, i, print) {
             return refused_at(29, Place::Entry(i));
         }
+        prints[i] = print;
+        marks[slot(print)] = 1;
         i += 1;
     }
     done()

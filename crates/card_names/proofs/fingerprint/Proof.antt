@@ -4,56 +4,29 @@ use borrow.Author.Needs.{needs}
 use Rattle.card_names.proofs.fingerprint.Statement.{statement}
 use Rattle.card_names.proofs.fingerprint.Tie as tie
 
-word-requires : tie.Need-word-requires
-word-requires c κs = search needs
+quad-requires : tie.Need-quad-requires
+quad-requires c κs = search needs
 
-mul-front : tie.Need-mul-front
-mul-front c = search needs
+mul-sum : tie.Need-mul-sum
+mul-sum c = search needs
 
-word-requires-2 : tie.Need-word-requires-2
-word-requires-2 c κs = search needs
+quad-requires-2 : tie.Need-quad-requires-2
+quad-requires-2 c κs = search needs
 
-mul-front-2 : tie.Need-mul-front-2
-mul-front-2 c = search needs
+mul-sum-2 : tie.Need-mul-sum-2
+mul-sum-2 c = search needs
 
-add-front : tie.Need-add-front
-add-front c = search needs
+add-sum : tie.Need-add-sum
+add-sum c = search needs
 
-word-requires-3 : tie.Need-word-requires-3
-word-requires-3 c κs = search needs
+quad-requires-3 : tie.Need-quad-requires-3
+quad-requires-3 c κs = search needs
 
-mul-front-3 : tie.Need-mul-front-3
-mul-front-3 c = search needs
+mul-sum-3 : tie.Need-mul-sum-3
+mul-sum-3 c = search needs
 
-add-front-2 : tie.Need-add-front-2
-add-front-2 c = search needs
-
-word-requires-4 : tie.Need-word-requires-4
-word-requires-4 c κs = search needs
-
-mul-back : tie.Need-mul-back
-mul-back c = search needs
-
-word-requires-5 : tie.Need-word-requires-5
-word-requires-5 c κs = search needs
-
-mul-back-2 : tie.Need-mul-back-2
-mul-back-2 c = search needs
-
-add-back : tie.Need-add-back
-add-back c = search needs
-
-word-requires-6 : tie.Need-word-requires-6
-word-requires-6 c κs = search needs
-
-mul-back-3 : tie.Need-mul-back-3
-mul-back-3 c = search needs
-
-add-back-2 : tie.Need-add-back-2
-add-back-2 c = search needs
-
-add-result : tie.Need-add-result
-add-result c = search needs
+add-sum-2 : tie.Need-add-sum-2
+add-sum-2 c = search needs
 
 cast-result : tie.Need-cast-result
 cast-result c = search needs
@@ -66,22 +39,13 @@ pub fingerprint-spec : {M : Type 1} → statement M
 fingerprint-spec =
     tie.close
     (tie.spec
-    word-requires
-    mul-front
-    word-requires-2
-    mul-front-2
-    add-front
-    word-requires-3
-    mul-front-3
-    add-front-2
-    word-requires-4
-    mul-back
-    word-requires-5
-    mul-back-2
-    add-back
-    word-requires-6
-    mul-back-3
-    add-back-2
-    add-result
+    quad-requires
+    mul-sum
+    quad-requires-2
+    mul-sum-2
+    add-sum
+    quad-requires-3
+    mul-sum-3
+    add-sum-2
     cast-result
     returns)

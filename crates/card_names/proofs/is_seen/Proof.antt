@@ -13,24 +13,18 @@ use Rattle.card_names.proofs.is_seen.Statement.{statement}
 use Rattle.card_names.proofs.is_seen.Tie as tie
 
 abbrev same : List ℕ → ℕ → ℕ → Bool
-same prints i j = eqb (getD prints j 0) (getD prints i 0)
+same prints print j = eqb (getD prints j 0) print
 
 abbrev Inv-loop : tie.InvT-loop
-Inv-loop prints i print seen₀ j₀ seen j =
-    (j ≤ i) × (anyOf (same prints i) (numbersFrom 0 i) ≡ (seen || anyOf (same prints i) (numbersFrom j (i - j))))
+Inv-loop prints end print seen₀ j₀ seen j =
+    (j ≤ end) × (anyOf (same prints print) (numbersFrom 0 end) ≡ (seen || anyOf (same prints print) (numbersFrom j (end - j))))
 
 abbrev μ-loop : tie.MeasureT-loop
-μ-loop prints i print seen₀ j₀ seen j = i - j
-
-mul-print : tie.Need-mul-print Inv-loop μ-loop
-mul-print c = search needs
-
-element-copy-out-print : tie.Need-element-copy-out-print Inv-loop μ-loop
-element-copy-out-print c = search needs
+μ-loop prints end print seen₀ j₀ seen j = end - j
 
 loop-holds : tie.Need-loop-holds Inv-loop μ-loop
 loop-holds c =
-    let e : c .before .args .i - 0 ≡ c .before .args .i = omega arith in
+    let e : c .args .end - 0 ≡ c .args .end = omega arith in
     (omega arith, rw e)
 
 mul-seen : tie.Need-mul-seen Inv-loop μ-loop
@@ -48,17 +42,17 @@ loop-less c = search needs
 loop-again : tie.Need-loop-again Inv-loop μ-loop
 loop-again c =
     let l = c .before .before in
-    let a = l .before .before .args in
-    let p = same (a .prints .now) (a .i) in
-    let n = ap (anyOf p) (numbers-next p (l .loop .j) (a .i) (omega arith)) in
+    let a = l .before .args in
+    let p = same (a .prints .now) (a .print) in
+    let n = ap (anyOf p) (numbers-next p (l .loop .j) (a .end) (omega arith)) in
     (omega arith, l .loop .inv .1 ∙ ap (λ (r : Bool). l .loop .seen || r) n ∙ sym (or-assoc (l .loop .seen) _ _))
 
 returns : tie.Need-returns Inv-loop μ-loop
 returns c =
     let l = c .before in
-    let a = l .before .before .args in
-    let p = same (a .prints .now) (a .i) in
-    let n = any-end p (l .loop .j) (a .i) (omega arith) in
+    let a = l .before .args in
+    let p = same (a .prints .now) (a .print) in
+    let n = any-end p (l .loop .j) (a .end) (omega arith) in
     sym (l .loop .inv .1 ∙ ap (λ (r : Bool). l .loop .seen || r) n ∙ or-false (l .loop .seen))
 
 pub is-seen-spec : {M : Type 1} → statement M
@@ -67,8 +61,6 @@ is-seen-spec =
     (tie.spec
     Inv-loop
     μ-loop
-    mul-print
-    element-copy-out-print
     loop-holds
     mul-seen
     element-copy-out-seen
