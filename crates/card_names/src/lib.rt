@@ -1,7 +1,7 @@
 // Refusal 29. Each name has a fingerprint, one number, and each fingerprint a mark, one byte of a field of marks: fingerprints are
 // compared only where the mark is set, and names only where an earlier fingerprint is the same.
 use card_directory::entry::entry_at;
-use card_directory::entry::is_used;
+use card_directory::listing::listed_at;
 use card_directory::search::FoundEntry;
 use card_directory::search::find_named;
 use verdicts::Place;
@@ -15,7 +15,8 @@ ghost use lib.Dec.{eqb};
 ghost use lib.ListN.{length, getD};
 ghost use Rattle.words.specs.Lists.{anyOf, numbersFrom};
 ghost use Rattle.card_model.specs.Layout.{directoryOf};
-ghost use Rattle.card_model.specs.Entries.{entryAt, nameTaken, nameRow};
+ghost use Rattle.card_model.specs.Entries.{nameTaken, nameRow};
+ghost use Rattle.card_directory.specs.Listed.{Listed};
 ghost use Rattle.card_names.specs.Prints as shortcut;
 
 // Four bytes as a number.
@@ -26,25 +27,15 @@ fn quad(name: &[u8], i: usize) -> usize
     word(name, i) + 65536 * word(name, i + 2)
 }
 
-// Any function of the name would do. The factors are below 2^30, so that the sum fits, and the middle of the sum depends on every
-// byte, so that similar names seldom have the same fingerprint or the same mark.
-fn fingerprint(name: &[u8]) -> u32
-    requires { ⌜ length (now name) ≡ 12 ⌝ }
-    ensures { λ r. ⌜ r ≡ shortcut.fingerprint (now (name .entry)) ⌝ }
-{
-    let sum = 747796405 * quad(name, 0) + 843314857 * quad(name, 4) + 668265263 * quad(name, 8);
-    (sum / 16777216 % 4294967296) as u32
-}
-
-// The fingerprint of an entry's name, 0 for an unused entry.
+// The fingerprint of an entry's name. Any function of the name would do. The factors are below 2^30, so that the sum fits, and the
+// middle of the sum depends on every byte, so that similar names seldom have the same fingerprint or the same mark.
 fn print_of(entry: &[u8]) -> u32
     requires { ⌜ length (now entry) ≡ 32 ⌝ }
     ensures { λ r. ⌜ r ≡ shortcut.printOf (now (entry .entry)) ⌝ }
 {
-    if !is_used(entry) {
-        return 0;
-    }
-    fingerprint(&entry[4..16])
+    let name = &entry[4..16];
+    let sum = 747796405 * quad(name, 0) + 843314857 * quad(name, 4) + 668265263 * quad(name, 8);
+    (sum / 16777216 % 4294967296) as u32
 }
 
 // The place of a fingerprint's mark.
@@ -68,44 +59,46 @@ fn is_seen(prints: &[u32; 208], end: usize, print: u32) -> bool
     seen
 }
 
-// Refusal 29's test of an entry with this fingerprint. Names that differ may share a mark, and even a fingerprint.
+// Refusal 29's test of a used entry with this fingerprint. Names that differ may share a mark, and even a fingerprint.
 fn name_taken(card: &[u8], prints: &[u32; 208], marks: &[u8; 2048], i: usize, print: u32) -> bool
     requires { ⌜ (length (now card) ≡ 131072) × (i < 208) ⌝ }
-    requires { ⌜ shortcut.Entered (directoryOf (now card)) (now prints) (now marks) i × (print ≡ shortcut.printOf (entryAt (directoryOf (now card)) i)) ⌝ }
+    requires { ⌜ shortcut.Met (directoryOf (now card)) (now prints) (now marks) i print ⌝ }
     ensures { λ r. ⌜ r ≡ nameTaken (directoryOf (now (card .entry))) i ⌝ }
 {
-    let entry = entry_at(card, i);
-    if !is_used(entry) {
-        return false;
-    }
     if marks[slot(print)] == 0 {
         return false;
     }
     if !is_seen(prints, i, print) {
         return false;
     }
+    let entry = entry_at(card, i);
     match find_named(card, &entry[4..16], i) {
         FoundEntry::At(_) => true,
         FoundEntry::Nothing => false,
     }
 }
 
-// The refusal at the first entry whose name is taken.
-pub fn name_row(card: &[u8]) -> Verdict
+// The refusal at the first entry whose name is taken, from the list of the used entries.
+pub fn name_row(card: &[u8], used: &[u8; 208], count: usize) -> Verdict
     requires { ⌜ length (now card) ≡ 131072 ⌝ }
+    requires { ⌜ Listed (directoryOf (now card)) 208 (now used) count ⌝ }
     ensures { λ r. ⌜ r ≡ nameRow (directoryOf (now (card .entry))) ⌝ }
 {
+    if count == 0 {
+        return done();
+    }
     let mut prints = [0u32; 208];
     let mut marks = [0u8; 2048];
-    let mut i = 0;
-    while i < 208 {
+    let mut j = 0;
+    while j < count {
+        let i = listed_at(used, j);
         let print = print_of(entry_at(card, i));
         if name_taken(card, &prints, &marks, i, print) {
             return refused_at(29, Place::Entry(i));
         }
         prints[i] = print;
         marks[slot(print)] = 1;
-        i += 1;
+        j += 1;
     }
     done()
 }

@@ -1,43 +1,64 @@
 -- `print_of` meets its contract. Assumes nothing.
-use mathlib.Core.Path.{sym, _∙_}
-use borrow.Author.Tests.{not-true, not-false}
 use Rattle.card_model.specs.Entries.{nameOf}
-use Rattle.card_names.specs.Prints.{printOf}
+use Rattle.card_names.specs.Prints.{fingerprint, printOf}
 use borrow.Author.Needs.{needs}
 use Rattle.card_names.proofs.print_of.Statement.{statement}
 use Rattle.card_names.proofs.print_of.Tie as tie
 
-is-used-requires : tie.Need-is-used-requires
-is-used-requires c κs = search needs
+sub-name : tie.Need-sub-name
+sub-name c = search needs
+
+part-name-start : tie.Need-part-name-start
+part-name-start c = search needs
+
+part-name-end : tie.Need-part-name-end
+part-name-end c = search needs
+
+quad-requires : tie.Need-quad-requires
+quad-requires c κs = search needs
+
+mul-sum : tie.Need-mul-sum
+mul-sum c = search needs
+
+quad-requires-2 : tie.Need-quad-requires-2
+quad-requires-2 c κs = search needs
+
+mul-sum-2 : tie.Need-mul-sum-2
+mul-sum-2 c = search needs
+
+add-sum : tie.Need-add-sum
+add-sum c = search needs
+
+quad-requires-3 : tie.Need-quad-requires-3
+quad-requires-3 c κs = search needs
+
+mul-sum-3 : tie.Need-mul-sum-3
+mul-sum-3 c = search needs
+
+add-sum-2 : tie.Need-add-sum-2
+add-sum-2 c = search needs
+
+cast-result : tie.Need-cast-result
+cast-result c = search needs
 
 returns : tie.Need-returns
-unfolding printOf
-returns c = rw (sym (c .before .is-used .ensures) ∙ not-true _ (c .if1 .taken))
-
-sub-fingerprint : tie.Need-sub-fingerprint
-sub-fingerprint c = search needs
-
-part-fingerprint-start : tie.Need-part-fingerprint-start
-part-fingerprint-start c = search needs
-
-part-fingerprint-end : tie.Need-part-fingerprint-end
-part-fingerprint-end c = search needs
-
-fingerprint-requires : tie.Need-fingerprint-requires
-fingerprint-requires c κs = search needs
-
-returns-2 : tie.Need-returns-2
-unfolding printOf nameOf
-returns-2 c = rw (sym (c .before .before .before .is-used .ensures) ∙ not-false _ (c .before .before .if1 .left)) (c .fingerprint .ensures)
+unfolding printOf fingerprint nameOf
+returns c = cc
 
 pub print-of-spec : {M : Type 1} → statement M
 print-of-spec =
     tie.close
     (tie.spec
-    is-used-requires
-    returns
-    sub-fingerprint
-    part-fingerprint-start
-    part-fingerprint-end
-    fingerprint-requires
-    returns-2)
+    sub-name
+    part-name-start
+    part-name-end
+    quad-requires
+    mul-sum
+    quad-requires-2
+    mul-sum-2
+    add-sum
+    quad-requires-3
+    mul-sum-3
+    add-sum-2
+    cast-result
+    returns)
