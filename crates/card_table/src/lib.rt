@@ -42,7 +42,7 @@ pub fn fat_entry(card: &[u8], b: usize) -> usize
 }
 
 // The whole table. Its numbers have no more than their two bytes, so that a loop over it is compiled to steps of several entries.
-fn read_table(card: &[u8]) -> [u16; 256]
+pub fn read_table(card: &[u8]) -> [u16; 256]
     requires { ⌜ length (now card) ≡ 131072 ⌝ }
     ensures { λ r. ⌜ r ≡ tableOf (now (card .entry)) ⌝ }
 {
