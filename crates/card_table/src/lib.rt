@@ -1,4 +1,4 @@
-// The root block and the table of a card: refusals 20 to 25, and what the table says of a block.
+// The root block and the table of a card: refusals 20 to 25, the table's entries and their classes.
 use card_model::Link;
 use verdicts::Place;
 use verdicts::Verdict;
@@ -14,7 +14,7 @@ ghost use Rattle.words.specs.Search.{lowest};
 ghost use Rattle.verdicts.specs.declared.Place.the-variants.{Block};
 ghost use Rattle.verdicts.specs.Rows.{rowOver, unlessRefused};
 ghost use Rattle.card_model.specs.Layout.{rootOf, tableOf};
-ghost use Rattle.card_model.specs.Table.{magicRow, fieldsRow, rightFields, fatEntry, linkOf, linkAt, systemEntry, freeOrDamaged, isBad};
+ghost use Rattle.card_model.specs.Table.{magicRow, fieldsRow, rightFields, fatEntry, linkOf, systemEntry, freeOrDamaged, isBad};
 ghost use Rattle.card_model.specs.Calls.{lengthRow, tableRows};
 ghost use Rattle.card_table.specs.Regions.{wrongIn, Ready, entryRows};
 
@@ -68,15 +68,7 @@ pub fn classify(e: usize) -> Link
     }
 }
 
-// What the table says of a block.
-pub fn link_at(card: &[u8], b: usize) -> Link
-    requires { ⌜ (length (now card) ≡ 131072) × (b < 256) ⌝ }
-    ensures { λ r. ⌜ r ≡ linkAt (tableOf (now (card .entry))) b ⌝ }
-{
-    classify(fat_entry(card, b))
-}
-
-pub fn free_or_damaged(link: Link) -> bool
+fn free_or_damaged(link: Link) -> bool
     ensures { λ r. ⌜ r ≡ freeOrDamaged link ⌝ }
 {
     match link {

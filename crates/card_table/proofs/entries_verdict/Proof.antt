@@ -1,5 +1,5 @@
 -- `entries_verdict` meets its contract: the first row that refuses, in order. Assumes nothing.
-use mathlib.Core.Path.{sym, _∙_}
+use mathlib.Core.Path.{_≡_, sym, _∙_}
 use Rattle.verdicts.proofs.RowLaws.{refused-first, not-refused}
 use Rattle.card_model.specs.Table.{systemRow, hiddenRow, userRow}
 use Rattle.card_table.specs.Regions.{entryRows}
@@ -42,7 +42,8 @@ returns-3 c =
     let i = j .before .before .before in
     let s = i .before .before .row in
     let table = i .before .before .before .before .args .table .now in
-    c .row3 .ensures
+    let u : c .row3 .result ≡ userRow table = c .row3 .ensures in
+    u
     ∙ sym
     (not-refused (systemRow table) _ (s .result) (s .ensures) (i .if1 .left)
     ∙ not-refused (hiddenRow table) (userRow table) (h .result) (h .ensures) (j .if2 .left))
