@@ -18,7 +18,7 @@ use Rattle.words.proofs.SearchLaws.{lowest-nothing}
 use Rattle.words.proofs.WordLaws.{same-eq}
 use Rattle.card_model.specs.Entries.{nameOf, isUsed, entryAt, isNamed, nameTaken}
 use Rattle.card_directory.specs.Listed.{NextUsed, reached, Listed}
-use Rattle.card_names.specs.Prints.{fingerprint, printOf, slot, Entered, Met}
+use Rattle.card_names.specs.Prints.{fingerprint, printOf, slot, EnteredAt, Entered, Met}
 use Rattle.card_directory.proofs.DirectoryLaws.{unused-name, used-name}
 use Rattle.card_directory.proofs.ListedLaws.{listed-used}
 
@@ -38,16 +38,18 @@ module _ (directory : List (List ℕ)) (prints marks : List ℕ) where
   entered-to : (a i : ℕ) → NextUsed directory a 208 i → Entered directory prints marks a → Entered directory prints marks i
   entered-to a i n h j b u = go (ltb j a) refl
     where
-      go : (t : Bool) → ltb j a ≡ t → (getD prints j 0 ≡ printOf (entryAt directory j)) × (getD marks (slot (printOf (entryAt directory j))) 0 ≡ 1)
+      go : (t : Bool) → ltb j a ≡ t → EnteredAt directory prints marks j
       go true q = h j (ltb-true j a q) u
       go false q = absurd (true≢false (sym u ∙ n .skipped j (ltb-false j a q) b))
 
+  -- a number of the list is met
   pub met-here : {used : List ℕ} {count : ℕ} → Listed directory 208 used count → (j i : ℕ) → i ≡ getD used j 0 → j < count
       → Entered directory prints marks (reached used j) → (x : ℕ) → x ≡ printOf (entryAt directory i) → Met directory prints marks i x
   met-here {used} l j i e h n x q =
       record { before = entered-to (reached used j) i (rw e (l .each j h)) n; is-used = listed-used l j i e h; own = q }
 
   module _ (i x : ℕ) (met : Met directory prints marks i x) where
+    -- and entered
     pub entered-next : i < length prints → (k : ℕ) → k ≡ slot x → k < length marks → (end : ℕ) → i + 1 ≡ end → Entered directory (set prints i x) (set marks k 1) end
     entered-next l k r m end f j b u = go (ℕ-discrete j i)
       where
@@ -55,7 +57,7 @@ module _ (directory : List (List ℕ)) (prints marks : List ℕ) where
         stays p e (yes d) = rw d (getD-set-same marks k 1 0 m)
         stays p e (no d) = getD-set-other marks k p 1 0 d ∙ e
 
-        go : Dec (j ≡ i) → (getD (set prints i x) j 0 ≡ printOf (entryAt directory j)) × (getD (set marks k 1) (slot (printOf (entryAt directory j))) 0 ≡ 1)
+        go : Dec (j ≡ i) → EnteredAt directory (set prints i x) (set marks k 1) j
         go (yes d) = rw (d, ← met .own, ← r) (getD-set-same prints i x 0 l, getD-set-same marks k 1 0 m)
         go (no d) =
             let e = met .before j (omega (arith, d)) u in

@@ -23,10 +23,14 @@ printOf entry = fingerprint (nameOf entry)
 unfoldable pub slot : ℕ → ℕ
 slot print = print % 2048
 
--- The fingerprint of each used entry before `end` is among the numbers, and its mark is set.
+-- The fingerprint of entry j is among the numbers, and its mark is set.
+abbrev pub EnteredAt : List (List ℕ) → List ℕ → List ℕ → ℕ → Type 0
+EnteredAt directory prints marks j =
+    (getD prints j 0 ≡ printOf (entryAt directory j)) × (getD marks (slot (printOf (entryAt directory j))) 0 ≡ 1)
+
+-- So are those of each used entry before `end`.
 abbrev pub Entered : List (List ℕ) → List ℕ → List ℕ → ℕ → Type 0
-Entered directory prints marks end = (j : ℕ) → j < end → isUsed (entryAt directory j) ≡ true
-    → (getD prints j 0 ≡ printOf (entryAt directory j)) × (getD marks (slot (printOf (entryAt directory j))) 0 ≡ 1)
+Entered directory prints marks end = (j : ℕ) → j < end → isUsed (entryAt directory j) ≡ true → EnteredAt directory prints marks j
 
 -- What is known where a used entry is met: the entries before it, and its own fingerprint.
 pub record Met (directory : List (List ℕ)) (prints marks : List ℕ) (i print : ℕ) : Type 0 where
