@@ -44,7 +44,7 @@ fn judge_files(card: &[u8], marks: &mut [u8; 200]) -> Verdict
     if chains.number != 0 {
         return chains;
     }
-    let names = name_row(card);
+    let names = name_row(card, &used, list.count);
     if names.number != 0 {
         return names;
     }

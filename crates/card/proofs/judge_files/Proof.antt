@@ -39,12 +39,15 @@ returns-2 c =
     (chains-refused table directory (f .result .verdict) (f .ensures .0) (g .if1 .left) (w .result) (w .ensures .0) (c .if2 .taken), λ z. absurd (c .if2 .taken (eqb-true _ _ z)))
 
 name-row-requires : tie.Need-name-row-requires
-name-row-requires c κs = search needs
+name-row-requires c κs =
+    let g = c .before .before .before .before .before .before in
+    let f = g .before .before .list-used in
+    (g .before .before .before .before .before .pre .0, f .ensures .1 (eq-eqb _ 0 (g .if1 .left)))
 
 returns-3 : tie.Need-returns-3
 returns-3 c =
     let m = c .before .before .name-row in
-    let h = c .before .before .before in
+    let h = c .before .before .before .before in
     let w = h .before .before .walk-files in
     let g = h .before .before .before .before .before in
     let f = g .before .before .list-used in
@@ -55,7 +58,7 @@ returns-3 c =
 
 game-row-requires : tie.Need-game-row-requires
 game-row-requires c κs =
-    let h = c .before .before .before .before in
+    let h = c .before .before .before .before .before in
     let w = h .before .before .walk-files in
     let g = h .before .before .before .before .before in
     let f = g .before .before .list-used in
@@ -68,7 +71,7 @@ returns-4 : tie.Need-returns-4
 returns-4 c =
     let k = c .before .before in
     let m = k .before .before .name-row in
-    let h = k .before .before .before in
+    let h = k .before .before .before .before in
     let w = h .before .before .walk-files in
     let g = h .before .before .before .before .before in
     let f = g .before .before .list-used in
