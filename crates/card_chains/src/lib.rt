@@ -3,7 +3,6 @@
 mod links;
 pub mod walking;
 
-use crate::links::read_table;
 use crate::walking::BROKEN;
 use crate::walking::SHARED;
 use crate::walking::walk;
@@ -12,6 +11,7 @@ use card_directory::entry::first_block;
 use card_directory::entry::size;
 use card_directory::listing::listed_at;
 use card_table::fat_entry;
+use card_table::read_table;
 use verdicts::Place;
 use verdicts::Verdict;
 use verdicts::done;
@@ -62,8 +62,7 @@ pub fn walk_files(card: &[u8], used: &[u8; 208], count: usize, marks: &mut [u8; 
     ensures { λ r. ⌜ r ≡ chainRows (tableOf (now (card .entry))) (directoryOf (now (card .entry))) ⌝ }
     ensures { λ r. ⌜ (accepted r ≡ true → now (marks .exit) ≡ fileMarks (tableOf (now (card .entry))) (directoryOf (now (card .entry))) 208) ⌝ }
 {
-    let mut table = [0u16; 256];
-    read_table(card, &mut table);
+    let table = read_table(card);
     let mut first: usize = 208;
     let mut j = 0;
     while j < count {

@@ -1,25 +1,10 @@
-// The table, read once into an array. The walks recurse over the array and not over the card: a slice has a length beside its
-// address and goes through memory at each call, and then the compiler doesn't make a loop of the recursion.
+// What an array of the table says of a block. The walks recurse over the array and not over the card: a slice has a length beside
+// its address and goes through memory at each call, and then the compiler doesn't make a loop of the recursion.
 use card_model::Link;
 use card_table::classify;
-use card_table::fat_entry;
 ghost use mathlib.Core.Path.{_≡_};
 ghost use Prim.Native.Nat.{_<_};
-ghost use lib.ListN.{length};
-ghost use Rattle.card_model.specs.Layout.{tableOf};
 ghost use Rattle.card_model.specs.Table.{linkAt};
-
-// All entries of the card's table.
-pub(crate) fn read_table(card: &[u8], table: &mut [u16; 256])
-    requires { ⌜ (length (now card) ≡ 131072) × (length (now table) ≡ 256) ⌝ }
-    ensures { λ _. ⌜ now (table .exit) ≡ tableOf (now (card .entry)) ⌝ }
-{
-    let mut b = 0;
-    while b < 256 {
-        table[b] = fat_entry(card, b) as u16;
-        b += 1;
-    }
-}
 
 // An entry as a wider number: of a parameter the prover knows that it fits, of an element of a lent array it does not.
 fn wide(e: u16) -> usize

@@ -1,7 +1,7 @@
 // Walks along a chain, with one fewer block left at each step.
 use crate::links::link_in;
-use crate::links::read_table;
 use card_model::Link;
+use card_table::read_table;
 ghost use mathlib.Core.Path.{_≡_};
 ghost use mathlib.Core.Bool.{cond};
 ghost use Prim.Native.Nat.{_<_};
@@ -82,7 +82,6 @@ pub fn block_after(card: &[u8], block: usize, left: usize) -> usize
     ensures { λ r. ⌜ IsAfter (tableOf (now (card .entry))) block left r ⌝ }
     ensures { λ r. ⌜ r < 200 ⌝ }
 {
-    let mut table = [0u16; 256];
-    read_table(card, &mut table);
+    let table = read_table(card);
     follow(&table, block, left)
 }

@@ -66,18 +66,18 @@ read-table-requires : tie.Need-read-table-requires Inv-loop μ-loop
 read-table-requires c κs = search needs
 
 loop-holds : tie.Need-loop-holds Inv-loop μ-loop
-loop-holds c = (omega arith, c .before .before .before .pre .0 .1 ∙ sym (marks-start _ _), refl, start _)
+loop-holds c = (omega arith, c .before .before .pre .0 .1 ∙ sym (marks-start _ _), refl, start _)
 
 listed-at-requires : tie.Need-listed-at-requires Inv-loop μ-loop
 listed-at-requires c κs =
-    let a = c .before .before .before .before .before in
+    let a = c .before .before .before .before in
     omega (arith, a .pre .1 .0 .fits)
 
 walk-file-requires : tie.Need-walk-file-requires Inv-loop μ-loop
 walk-file-requires c κs =
     let n = c .before .before in
     let l = n .before .before in
-    let a = l .before .before .before .before in
+    let a = l .before .before .before in
     let list = a .pre .1 .0 in
     let e = n .listed-at .ensures in
     let b = listed-below list (l .loop .j) _ e (omega arith) in
@@ -94,7 +94,7 @@ returns c =
     let n = w .before .before .before in
     let l = n .before .before in
     let r = l .before in
-    let a = r .before .before .before in
+    let a = r .before .before in
     let card = a .args .card .now in
     let list = a .pre .1 .0 in
     let j = l .loop .j in
@@ -120,7 +120,7 @@ loop-again c =
     let n = w .before .before .before in
     let l = n .before .before in
     let r = l .before in
-    let a = r .before .before .before in
+    let a = r .before .before in
     let card = a .args .card .now in
     let list = a .pre .1 .0 in
     let j = l .loop .j in
@@ -149,7 +149,7 @@ returns-2 : tie.Need-returns-2 Inv-loop μ-loop
 returns-2 c =
     let l = c .before .before .before in
     let v = c .refused-at2 .ensures in
-    let a = l .before .before .before .before in
+    let a = l .before .before .before in
     let card = a .args .card .now in
     let list = a .pre .1 .0 in
     let j = l .loop .j in
@@ -164,7 +164,7 @@ done-requires c κs = search needs
 returns-3 : tie.Need-returns-3 Inv-loop μ-loop
 returns-3 c =
     let l = c .before .before .before in
-    let a = l .before .before .before .before in
+    let a = l .before .before .before in
     let card = a .args .card .now in
     let list = a .pre .1 .0 in
     let j = l .loop .j in
