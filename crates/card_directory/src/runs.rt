@@ -1,4 +1,5 @@
-// Runs of eight unused entries, which a pass over the directory leaves behind at once.
+// Runs of eight unused entries, which a pass over the directory leaves behind at once. With all 16 entries of a block, `pass` would
+// be too large for the compiler to put it into the loops that call it.
 use crate::entry::entry_at;
 use crate::entry::is_used;
 ghost use mathlib.Core.Path.{_≡_};
