@@ -53,8 +53,8 @@ fn remember(first: usize, found: u8, i: usize) -> usize
     first
 }
 
-// Refusals 27 and 28, over the list of the used entries. A bad chain anywhere comes before a shared block, so the first entry that shares one is remembered and
-// the pass goes on.
+// Refusals 27 and 28, over the list of the used entries. A bad chain anywhere comes before a shared block, so the first entry that
+// shares one is remembered and the pass goes on.
 pub fn walk_files(card: &[u8], used: &[u8; 208], count: usize, marks: &mut [u8; 200]) -> Verdict
     requires { ⌜ (length (now card) ≡ 131072) × (now marks ≡ noMarks) ⌝ }
     requires { ⌜ Listed (directoryOf (now card)) 208 (now used) count ⌝ }
