@@ -12,7 +12,7 @@ use lib.Pow.{pow-add, pow-pos, shl-exact}
 use Rattle.loads.specs.BigEndian.{Made, Word, repeated}
 
 -- one byte more is eight digits more
-pow-next : (n : ℕ) → 2 ^ (suc n * 8) ≡ 2 ^ (n * 8) * 256
+pub pow-next : (n : ℕ) → 2 ^ (suc n * 8) ≡ 2 ^ (n * 8) * 256
 pow-next n = let e : suc n * 8 ≡ n * 8 + 8 = omega arith in ap (λ (x : ℕ). 2 ^ x) e ∙ pow-add 2 (n * 8) 8
 
 -- a word without its last byte

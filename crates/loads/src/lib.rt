@@ -1,9 +1,10 @@
-// Eight or six bytes of a run as one number, big endian. The expressions are flat because the compiler makes one load with a
-// byte swap of that shape, and of no loop; nor where the same bytes are read twice.
+// Several bytes of a run as one number. The expressions are flat because the compiler makes one load of that shape, with a byte
+// swap where it is big endian, and of no loop; nor where the same bytes are read twice.
 ghost use mathlib.Core.Path.{_≡_};
 ghost use Prim.Native.Nat.{_+_, _<_, _≤_};
 ghost use lib.ListN.{length};
 ghost use Rattle.loads.specs.BigEndian.{Word};
+ghost use Rattle.loads.specs.LittleEndian.{Little};
 
 // A byte as a number of 32 bits, with its bound.
 fn wide(x: u8) -> u32
@@ -19,7 +20,7 @@ fn long(x: u32) -> u64
     x as u64
 }
 
-// The two bytes from a place.
+// The two bytes from a place, big endian.
 fn word2(s: &[u8], at: usize) -> u32
     requires { ⌜ at + 2 ≤ length (now s) ⌝ }
     ensures { λ r. ⌜ Word 2 (now (s .entry)) at r ⌝ }
@@ -27,7 +28,7 @@ fn word2(s: &[u8], at: usize) -> u32
     (wide(s[at]) << 8) | wide(s[at + 1])
 }
 
-// The four bytes from a place.
+// The four bytes from a place, big endian.
 fn word4(s: &[u8], at: usize) -> u32
     requires { ⌜ at + 4 ≤ length (now s) ⌝ }
     ensures { λ r. ⌜ Word 4 (now (s .entry)) at r ⌝ }
@@ -35,7 +36,7 @@ fn word4(s: &[u8], at: usize) -> u32
     (wide(s[at]) << 24) | (wide(s[at + 1]) << 16) | (wide(s[at + 2]) << 8) | wide(s[at + 3])
 }
 
-// The six bytes from a place.
+// The six bytes from a place, big endian.
 pub fn word6(s: &[u8], at: usize) -> u64
     requires { ⌜ at + 6 ≤ length (now s) ⌝ }
     ensures { λ r. ⌜ Word 6 (now (s .entry)) at r ⌝ }
@@ -43,10 +44,42 @@ pub fn word6(s: &[u8], at: usize) -> u64
     (long(word4(s, at)) << 16) | long(word2(s, at + 4))
 }
 
-// The eight bytes from a place.
+// The eight bytes from a place, big endian.
 pub fn word8(s: &[u8], at: usize) -> u64
     requires { ⌜ at + 8 ≤ length (now s) ⌝ }
     ensures { λ r. ⌜ Word 8 (now (s .entry)) at r ⌝ }
 {
     (long(word4(s, at)) << 32) | long(word4(s, at + 4))
+}
+
+// The two bytes from a place, little endian.
+fn little2(s: &[u8], at: usize) -> u32
+    requires { ⌜ at + 2 ≤ length (now s) ⌝ }
+    ensures { λ r. ⌜ Little 2 (now (s .entry)) at r ⌝ }
+{
+    wide(s[at]) | (wide(s[at + 1]) << 8)
+}
+
+// The four bytes from a place, little endian.
+fn little4(s: &[u8], at: usize) -> u32
+    requires { ⌜ at + 4 ≤ length (now s) ⌝ }
+    ensures { λ r. ⌜ Little 4 (now (s .entry)) at r ⌝ }
+{
+    wide(s[at]) | (wide(s[at + 1]) << 8) | (wide(s[at + 2]) << 16) | (wide(s[at + 3]) << 24)
+}
+
+// The six bytes from a place, little endian.
+pub fn little6(s: &[u8], at: usize) -> u64
+    requires { ⌜ at + 6 ≤ length (now s) ⌝ }
+    ensures { λ r. ⌜ Little 6 (now (s .entry)) at r ⌝ }
+{
+    long(little4(s, at)) | (long(little2(s, at + 4)) << 32)
+}
+
+// The eight bytes from a place, little endian.
+pub fn little8(s: &[u8], at: usize) -> u64
+    requires { ⌜ at + 8 ≤ length (now s) ⌝ }
+    ensures { λ r. ⌜ Little 8 (now (s .entry)) at r ⌝ }
+{
+    long(little4(s, at)) | (long(little4(s, at + 4)) << 32)
 }
