@@ -1,9 +1,9 @@
 -- How the running value goes through the bytes: one byte more at a time, a word of bytes at a time, and nothing left past
 -- the end.
 -- Assumes nothing.
-use Prim.Native.Nat.{ℕ, zero, suc, _+_, _*_, _/_, _%_, _≤_, _<_}
+use Prim.Native.Nat.{ℕ, zero, suc, _+_, _-_, _*_, _/_, _%_, _≤_, _<_}
 use mathlib.Core.Path.{_≡_, refl, sym, ap, ap₂, _∙_}
-use mathlib.Core.List.{List}
+use mathlib.Core.List.{List, [], _∷_}
 use native.Mathlib.Nat.{add-zero, mod-lt, div-add-mod'}
 use native.Mathlib.Numerals.{add-one}
 use native.Mathlib.Omega.{arith}
@@ -11,14 +11,16 @@ use lib.Dec.{lit<, lit≤}
 use lib.Bits.{bitXor, xor-lt, xor-zero-r}
 use lib.ListN.{length, getD, drop, drop-of-length-le}
 use lib.Seq.{drop-cons}
-use lib.Pow.{shl-exact}
 use Rattle.loads.specs.BigEndian.{Word}
-use Rattle.loads.proofs.WordLaws.{word-lt}
-use Rattle.checksum.specs.Crc.{shift, shifts, takes, crcFrom}
-use Rattle.checksum.specs.Polynomial.{rem}
-use Rattle.checksum.proofs.XorLaws.{xor-assoc}
+use Rattle.loads.specs.LittleEndian.{Little}
+use Rattle.loads.proofs.LittleLaws.{little-lt as word-below}
+use Rattle.checksum.specs.Crc.{shift, shifts, takes, crcFrom, checksumOf}
+use Rattle.checksum.specs.Polynomial.{rem, remLittle, behindStart}
+use Rattle.checksum.proofs.XorLaws.{xor-assoc, xor-ones}
+use Rattle.checksum.proofs.XorSolver.{var, both, solve}
 use Rattle.checksum.proofs.ShiftLaws.{shifts-lt, shifts-xor, shifts-add, shifts-swap}
 use Rattle.checksum.proofs.RemainderLaws.{rem-lt, rem-xor, rem-cat, rem-shl, rem-small}
+use Rattle.checksum.proofs.LittleLaws.{little-lt, little-more}
 
 pub crc-next : (n i : ℕ) (bytes : List ℕ) → i < length bytes → crcFrom n (drop i bytes) ≡ crcFrom (takes n (getD bytes i 0)) (drop (i + 1) bytes)
 unfolding crcFrom
@@ -56,7 +58,7 @@ behind-last n r w h =
     ∙ ap₂ bitXor (sym (shifts-add 8 k r) ∙ ap (λ (x : ℕ). shifts x r) width) (all ∙ ap (λ (x : ℕ). rem x w) width')
 
 -- to take the n bytes of a word into 16 shifts of r is to put its digits behind r
-pub crc-word : (n : ℕ) {s : List ℕ} {at w : ℕ} (r : ℕ) → r < 65536 → Word n s at w → at + n ≤ length s
+crc-word : (n : ℕ) {s : List ℕ} {at w : ℕ} (r : ℕ) → r < 65536 → Word n s at w → at + n ≤ length s
     → crcFrom (shifts 16 r) (drop at s) ≡ crcFrom (shifts 16 (bitXor (shifts (n * 8) r) (rem (n * 8) w))) (drop (at + n) s)
 unfolding rem shifts
 crc-word zero {s} {at} {w} r h known long =
@@ -70,33 +72,90 @@ crc-word (suc n) {s} {at} {w} r h known long =
     ∙ ap₂ (λ (v i : ℕ). crcFrom v (drop i s))
     (ap (takes (shifts 16 x)) (known .says .1) ∙ takes-behind x (w % 256) hx (mod-lt w (lit< tt)) ∙ ap (shifts 16) (behind-last n r w h)) next
 
--- the same, where t is r with the digits behind it
-pub crc-behind : (n : ℕ) {s : List ℕ} {at w : ℕ} (r t : ℕ) → r < 65536 → t ≡ bitXor (shifts (n * 8) r) (rem (n * 8) w) → Word n s at w → at + n ≤ length s
-    → crcFrom (shifts 16 r) (drop at s) ≡ crcFrom (shifts 16 t) (drop (at + n) s)
-crc-behind n {s} {at} {w} r t h e known long =
-    crc-word n r h known long ∙ ap (λ (x : ℕ). crcFrom (shifts 16 x) (drop (at + n) s)) (sym e)
+-- a byte b behind r, and the n bytes of w behind that
+behind-first : (n r b w : ℕ) → r < 65536 → b < 256
+    → bitXor (shifts (n * 8) (bitXor (shifts 8 r) b)) (remLittle n w) ≡ bitXor (shifts (suc n * 8) r) (bitXor (shifts (n * 8) b) (remLittle n w))
+behind-first n r b w h hb =
+    let width : n * 8 + 8 ≡ suc n * 8 = omega arith in
+    ap (λ (x : ℕ). bitXor x (remLittle n w)) (shifts-xor (n * 8) (shifts 8 r) b (shifts-lt 8 r h) (omega arith))
+    ∙ xor-assoc (shifts (n * 8) (shifts 8 r)) (shifts (n * 8) b) (remLittle n w)
+    ∙ ap (λ (x : ℕ). bitXor x (bitXor (shifts (n * 8) b) (remLittle n w))) (sym (shifts-add (n * 8) 8 r) ∙ ap (λ (x : ℕ). shifts x r) width)
+
+-- the same for a word loaded little endian
+crc-little : (n : ℕ) {s : List ℕ} {at w : ℕ} (r : ℕ) → r < 65536 → Little n s at w → at + n ≤ length s
+    → crcFrom (shifts 16 r) (drop at s) ≡ crcFrom (shifts 16 (bitXor (shifts (n * 8) r) (remLittle n w))) (drop (at + n) s)
+unfolding remLittle shifts
+crc-little zero {s} {at} {w} r h known long =
+    ap₂ (λ (x i : ℕ). crcFrom (shifts 16 x) (drop i s)) (sym (xor-zero-r r)) (sym (add-zero at))
+crc-little (suc n) {s} {at} {w} r h known long =
+    let b = w % 256 in
+    let hb : b < 256 = mod-lt w (lit< tt) in
+    let x = bitXor (shifts 8 r) b in
+    let hx : x < 65536 = xor-lt 16 (shifts 8 r) b (shifts-lt 8 r h) (omega arith) in
+    let next : at + 1 + n ≡ at + suc n = omega arith in
+    crc-next (shifts 16 r) at s (omega arith)
+    ∙ ap (λ (v : ℕ). crcFrom v (drop (at + 1) s)) (ap (takes (shifts 16 r)) (known .says .0) ∙ takes-behind r b h hb)
+    ∙ crc-little n x hx (record { says = known .says .1 }) (omega arith)
+    ∙ ap₂ (λ (v i : ℕ). crcFrom (shifts 16 v) (drop i s)) (behind-first n r b (w / 256) h hb) next
 
 -- a word behind the polynomial a of 64 digits, which a fold has made f
 pub crc-fold : (s : List ℕ) (i a f w : ℕ) → rem 64 f ≡ shifts 64 (rem 64 a) → Word 8 s i w → i + 8 ≤ length s
     → crcFrom (shifts 16 (rem 64 a)) (drop i s) ≡ crcFrom (shifts 16 (rem 64 (bitXor f w))) (drop (i + 8) s)
 crc-fold s i a f w folded known long =
-    crc-behind 8 (rem 64 a) (rem 64 (bitXor f w)) (rem-lt 64 a) (rem-xor 64 f w ∙ ap (λ (x : ℕ). bitXor x (rem 64 w)) folded) known long
-
--- six bytes where the bytes end: 16 shifts stand behind them
-pub crc-last : {s : List ℕ} {at w : ℕ} (r : ℕ) → r < 65536 → Word 6 s at w → length s ≡ at + 6
-    → crcFrom (shifts 16 r) (drop at s) ≡ bitXor (shifts 64 r) (rem 64 (w * 65536 % 18446744073709551616))
-crc-last {s} {at} {w} r h known end =
-    let exact : w * 65536 % 18446744073709551616 ≡ w * 65536 = shl-exact 48 16 64 (word-lt 6 known) (lit≤ tt) in
-    crc-word 6 r h known (omega arith)
-    ∙ crc-end (shifts 16 (bitXor (shifts 48 r) (rem 48 w))) (at + 6) s (omega arith)
-    ∙ shifts-xor 16 (shifts 48 r) (rem 48 w) (shifts-lt 48 r h) (rem-lt 48 w)
-    ∙ ap₂ bitXor (sym (shifts-add 16 48 r)) (sym (rem-shl 48 16 w) ∙ ap (rem 64) (sym exact))
+    crc-word 8 (rem 64 a) (rem-lt 64 a) known long
+    ∙ ap (λ (x : ℕ). crcFrom (shifts 16 x) (drop (i + 8) s)) (sym (rem-xor 64 f w ∙ ap (λ (x : ℕ). bitXor x (rem 64 w)) folded))
 
 -- the running value begins at FFFF, which 16 shifts make of 33999
-pub start : shifts 16 33999 ≡ 65535
+start : shifts 16 33999 ≡ 65535
 unfolding shifts shift
 start = refl
 
 pub start-word : shifts 16 (rem 64 33999) ≡ 65535
 unfolding rem shift
 start-word = start
+
+-- ---- words loaded little endian, with 33999 in front of them all
+
+pub start-little : (s : List ℕ) → crcFrom 65535 s ≡ crcFrom (shifts 16 (behindStart 0 0)) (drop 0 s)
+unfolding behindStart shifts
+start-little s = ap (λ (x : ℕ). crcFrom x s) (sym start)
+
+started-lt : (k : ℕ) → shifts k 33999 < 65536
+started-lt k = shifts-lt k 33999 (lit< tt)
+
+-- t is x with a word behind it
+pub crc-behind : (n k : ℕ) {s : List ℕ} {at w : ℕ} (x t : ℕ) → x < 65536 → t ≡ bitXor (shifts (n * 8) x) (remLittle n w) → Little n s at w → at + n ≤ length s
+    → crcFrom (shifts 16 (behindStart k x)) (drop at s) ≡ crcFrom (shifts 16 (behindStart (n * 8 + k) t)) (drop (at + n) s)
+unfolding behindStart
+crc-behind n k {s} {at} {w} x t h e known long =
+    let f = shifts k 33999 in
+    let front = shifts (n * 8) f in
+    let moved = shifts (n * 8) x in
+    crc-little n (bitXor x f) (xor-lt 16 x f h (started-lt k)) known long
+    ∙ ap (λ (y : ℕ). crcFrom (shifts 16 y) (drop (at + n) s))
+    (ap (λ (y : ℕ). bitXor y (remLittle n w)) (shifts-xor (n * 8) x f h (started-lt k))
+    ∙ solve (moved ∷ front ∷ remLittle n w ∷ []) (both (both (var 0) (var 1)) (var 2)) (both (both (var 0) (var 2)) (var 1)) refl
+    ∙ ap₂ bitXor (sym e) (sym (shifts-add (n * 8) k 33999)))
+
+-- six bytes where the bytes end: 16 shifts stand behind them, and t is x with all that behind it
+pub crc-last : (k : ℕ) {s : List ℕ} {at w : ℕ} (x t : ℕ) → x < 65536 → t ≡ bitXor (shifts 64 x) (remLittle 8 w) → Little 6 s at w → length s ≡ at + 6
+    → crcFrom (shifts 16 (behindStart k x)) (drop at s) ≡ behindStart (64 + k) t
+unfolding behindStart
+crc-last k {s} {at} {w} x t h e known end =
+    let y = bitXor (shifts 48 x) (remLittle 6 w) in
+    let hy : y < 65536 = xor-lt 16 (shifts 48 x) (remLittle 6 w) (shifts-lt 48 x h) (little-lt 6 w) in
+    let width : 16 + (48 + k) ≡ 64 + k = omega arith in
+    crc-behind 6 k x y h refl known (omega arith)
+    ∙ crc-end (shifts 16 (behindStart (48 + k) y)) (at + 6) s (omega arith)
+    ∙ shifts-xor 16 y (shifts (48 + k) 33999) hy (started-lt (48 + k))
+    ∙ ap₂ bitXor
+    (shifts-xor 16 (shifts 48 x) (remLittle 6 w) (shifts-lt 48 x h) (little-lt 6 w)
+    ∙ ap₂ bitXor (sym (shifts-add 16 48 x)) (sym (little-more 6 2 w (word-below 6 known))) ∙ sym e)
+    (sym (shifts-add 16 (48 + k) 33999) ∙ ap (λ (n : ℕ). shifts n 33999) width)
+
+-- 33999 leaves 51675 behind 512 digits, and the whole is inverted
+pub end-block : (s : List ℕ) (x : ℕ) → x < 65536 → crcFrom 65535 s ≡ behindStart 512 x → bitXor x 13860 ≡ checksumOf s
+unfolding checksumOf behindStart shifts shift
+end-block s x h e =
+    let n = bitXor x 51675 in
+    sym (ap (λ (y : ℕ). 65535 - y) e ∙ xor-ones 16 n (xor-lt 16 x 51675 h (lit< tt)) ∙ xor-assoc x 51675 65535)

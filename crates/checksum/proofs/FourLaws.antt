@@ -1,115 +1,157 @@
--- Four words as one polynomial of 256 digits: a fifth behind them, the four folded into one, and the first of a run, with
--- FFFF in front of it.
+-- Words loaded little endian as one polynomial, of up to 256 digits: a fifth behind four of them, three folded into two, and the
+-- first of a run.
 -- Assumes nothing.
-use Prim.Native.Nat.{ℕ, _*_, _/_, _%_, _<_, _≤_}
+use Prim.Native.Nat.{ℕ, _+_, _*_, _/_, _%_, _<_, _≤_}
 use mathlib.Core.Path.{_≡_, refl, sym, ap, ap₂, _∙_}
 use mathlib.Core.List.{List, [], _∷_}
+use native.Mathlib.Nat.{mod-lt}
 use native.Mathlib.Omega.{arith}
 use lib.Dec.{lit<}
-use lib.Bits.{bitXor, xor-lt}
+use lib.Bits.{bitXor, xor-lt, xor-mod, xor-zero-r}
 use lib.ListN.{length, drop}
-use Rattle.loads.specs.BigEndian.{Word}
-use Rattle.checksum.specs.Crc.{shift, shifts, crcFrom}
-use Rattle.checksum.specs.Polynomial.{rem, remFour}
+use Rattle.loads.specs.LittleEndian.{Little}
+use Rattle.checksum.specs.Crc.{shifts, crcFrom}
+use Rattle.checksum.specs.Polynomial.{rem, remLittle, remTwo, remThree, remFour, behindStart}
+use Rattle.checksum.proofs.XorLaws.{xor-shl}
 use Rattle.checksum.proofs.XorSolver.{var, both, solve}
-use Rattle.checksum.proofs.ShiftLaws.{shifts-lt, shifts-xor, shifts-add}
-use Rattle.checksum.proofs.RemainderLaws.{rem-lt, rem-xor}
-use Rattle.checksum.proofs.RuleLaws.{rule-256}
-use Rattle.checksum.proofs.FoldLaws.{rem-shl-word}
-use Rattle.checksum.proofs.CrcLaws.{crc-word, start}
+use Rattle.checksum.proofs.ShiftLaws.{shifts-lt, shifts-xor, shifts-add, shifts-zero}
+use Rattle.checksum.proofs.RemainderLaws.{rem-xor}
+use Rattle.checksum.proofs.LittleLaws.{little-lt, little-xor, little-shift}
+use Rattle.checksum.proofs.RuleLaws.{rule-128, rule-256, sum-shifts}
+use Rattle.checksum.proofs.CrcLaws.{crc-behind, start-little}
+
+-- a word behind x
+behind-lt : (x w : ℕ) → x < 65536 → bitXor (shifts 64 x) (remLittle 8 w) < 65536
+behind-lt x w h = xor-lt 16 (shifts 64 x) (remLittle 8 w) (shifts-lt 64 x h) (little-lt 8 w)
+
+two-lt : (a b : ℕ) → remTwo a b < 65536
+unfolding remTwo
+two-lt a b = behind-lt (remLittle 8 a) b (little-lt 8 a)
+
+three-lt : (a b c : ℕ) → remThree a b c < 65536
+unfolding remThree
+three-lt a b c = behind-lt (remTwo a b) c (two-lt a b)
 
 pub four-lt : (a b c d : ℕ) → remFour a b c d < 65536
 unfolding remFour
-four-lt a b c d =
-    xor-lt 16 (bitXor (bitXor (shifts 192 (rem 64 a)) (shifts 128 (rem 64 b))) (shifts 64 (rem 64 c))) (rem 64 d)
-    (xor-lt 16 (bitXor (shifts 192 (rem 64 a)) (shifts 128 (rem 64 b))) (shifts 64 (rem 64 c))
-    (xor-lt 16 (shifts 192 (rem 64 a)) (shifts 128 (rem 64 b)) (shifts-lt 192 (rem 64 a) (rem-lt 64 a)) (shifts-lt 128 (rem 64 b) (rem-lt 64 b)))
-    (shifts-lt 64 (rem 64 c) (rem-lt 64 c))) (rem-lt 64 d)
+four-lt a b c d = behind-lt (remThree a b c) d (three-lt a b c)
 
--- shifts go through the four
-four-shifts : (k p q r s : ℕ) → p < 65536 → q < 65536 → r < 65536 → s < 65536
-    → shifts k (bitXor (bitXor (bitXor p q) r) s) ≡ bitXor (bitXor (bitXor (shifts k p) (shifts k q)) (shifts k r)) (shifts k s)
-four-shifts k p q r s hp hq hr hs =
-    shifts-xor k (bitXor (bitXor p q) r) s (xor-lt 16 (bitXor p q) r (xor-lt 16 p q hp hq) hr) hs
-    ∙ ap (λ (x : ℕ). bitXor x (shifts k s))
-    (shifts-xor k (bitXor p q) r (xor-lt 16 p q hp hq) hr ∙ ap (λ (x : ℕ). bitXor x (shifts k r)) (shifts-xor k p q hp hq))
+-- k shifts of a word
+abbrev up : ℕ → ℕ → ℕ
+up k w = shifts k (remLittle 8 w)
 
--- k shifts of the exclusive or of two words
-pair : (k x y : ℕ) → shifts k (rem 64 (bitXor x y)) ≡ bitXor (shifts k (rem 64 x)) (shifts k (rem 64 y))
-pair k x y = ap (shifts k) (rem-xor 64 x y) ∙ shifts-xor k (rem 64 x) (rem 64 y) (rem-lt 64 x) (rem-lt 64 y)
+up-lt : (k w : ℕ) → up k w < 65536
+up-lt k w = shifts-lt k (remLittle 8 w) (little-lt 8 w)
+
+-- of the exclusive or of two
+up-xor : (k x y : ℕ) → up k (bitXor x y) ≡ bitXor (up k x) (up k y)
+up-xor k x y = ap (shifts k) (little-xor 8 x y) ∙ shifts-xor k (remLittle 8 x) (remLittle 8 y) (little-lt 8 x) (little-lt 8 y)
+
+-- 64 shifts more
+up-more : (k w : ℕ) → shifts 64 (up k w) ≡ shifts (64 + k) (remLittle 8 w)
+up-more k w = sym (shifts-add 64 k (remLittle 8 w))
+
+-- what one word behind the other makes, as a sum
+three-sum : (a b c : ℕ) → remThree a b c ≡ bitXor (bitXor (up 128 a) (up 64 b)) (remLittle 8 c)
+unfolding remThree remTwo
+three-sum a b c =
+    ap (λ (x : ℕ). bitXor x (remLittle 8 c))
+    (shifts-xor 64 (up 64 a) (remLittle 8 b) (up-lt 64 a) (little-lt 8 b) ∙ ap (λ (x : ℕ). bitXor x (up 64 b)) (up-more 64 a))
+
+four-sum : (a b c d : ℕ) → remFour a b c d ≡ bitXor (bitXor (bitXor (up 192 a) (up 128 b)) (up 64 c)) (remLittle 8 d)
+unfolding remFour
+four-sum a b c d =
+    ap (λ (x : ℕ). bitXor x (remLittle 8 d))
+    (ap (shifts 64) (three-sum a b c) ∙ sum-shifts 64 (up 128 a) (up 64 b) (remLittle 8 c) (up-lt 128 a) (up-lt 64 b) (little-lt 8 c)
+    ∙ ap (λ (x : ℕ). bitXor x (up 64 c)) (ap₂ bitXor (up-more 128 a) (up-more 64 b)))
+
+-- 64 shifts more of the four
+four-more : (a b c d : ℕ) → shifts 64 (remFour a b c d) ≡ bitXor (bitXor (bitXor (up 256 a) (up 192 b)) (up 128 c)) (up 64 d)
+four-more a b c d =
+    let three = bitXor (bitXor (up 192 a) (up 128 b)) (up 64 c) in
+    let ab-lt = xor-lt 16 (up 192 a) (up 128 b) (up-lt 192 a) (up-lt 128 b) in
+    ap (shifts 64) (four-sum a b c d)
+    ∙ shifts-xor 64 three (remLittle 8 d) (xor-lt 16 (bitXor (up 192 a) (up 128 b)) (up 64 c) ab-lt (up-lt 64 c)) (little-lt 8 d)
+    ∙ ap (λ (x : ℕ). bitXor x (up 64 d))
+    (sum-shifts 64 (up 192 a) (up 128 b) (up 64 c) (up-lt 192 a) (up-lt 128 b) (up-lt 64 c)
+    ∙ ap₂ bitXor (ap₂ bitXor (up-more 192 a) (up-more 128 b)) (up-more 64 c))
 
 pub four-step : (a b c d e : ℕ) → a < 18446744073709551616
-    → remFour (bitXor b a) (bitXor c (a / 281474976710656)) (bitXor d (a * 65536 % 18446744073709551616)) (bitXor e a)
-    ≡ bitXor (shifts 64 (remFour a b c d)) (rem 64 e)
-unfolding remFour
+    → remFour (bitXor b a) (bitXor c (a * 281474976710656 % 18446744073709551616)) (bitXor d (a / 65536)) (bitXor e a)
+    ≡ bitXor (shifts 64 (remFour a b c d)) (remLittle 8 e)
 four-step a b c d e h =
-    let hi = a / 281474976710656 in
-    let lo = a * 65536 % 18446744073709551616 in
-    let ra = rem 64 a in
-    let h80 : shifts 80 ra ≡ bitXor (shifts 64 (rem 64 lo)) (shifts 128 (rem 64 hi)) =
-    shifts-add 64 16 ra
-    ∙ ap (shifts 64) (solve (shifts 16 ra ∷ shifts 64 (rem 64 hi) ∷ []) (var 0) (both (both (var 0) (var 1)) (var 1)) refl
-    ∙ ap (λ (x : ℕ). bitXor x (shifts 64 (rem 64 hi))) (sym (rem-shl-word 48 16 a h)))
-    ∙ shifts-xor 64 (rem 64 lo) (shifts 64 (rem 64 hi)) (rem-lt 64 lo) (shifts-lt 64 (rem 64 hi) (rem-lt 64 hi))
-    ∙ ap (bitXor (shifts 64 (rem 64 lo))) (sym (shifts-add 64 64 (rem 64 hi))) in
-    let h256 : shifts 256 ra ≡ bitXor (bitXor (shifts 192 ra) (bitXor (shifts 64 (rem 64 lo)) (shifts 128 (rem 64 hi)))) ra =
-    rule-256 ra (rem-lt 64 a) ∙ ap (λ (x : ℕ). bitXor (bitXor (shifts 192 ra) x) ra) h80 in
-    let right : shifts 64 (remFour a b c d) ≡ bitXor (bitXor (bitXor (shifts 256 ra) (shifts 192 (rem 64 b))) (shifts 128 (rem 64 c))) (shifts 64 (rem 64 d)) =
-    four-shifts 64 (shifts 192 ra) (shifts 128 (rem 64 b)) (shifts 64 (rem 64 c)) (rem 64 d)
-    (shifts-lt 192 ra (rem-lt 64 a)) (shifts-lt 128 (rem 64 b) (rem-lt 64 b)) (shifts-lt 64 (rem 64 c) (rem-lt 64 c)) (rem-lt 64 d)
-    ∙ ap (λ (x : ℕ). bitXor x (shifts 64 (rem 64 d)))
-    (ap₂ bitXor (ap₂ bitXor (sym (shifts-add 64 192 ra)) (sym (shifts-add 64 128 (rem 64 b)))) (sym (shifts-add 64 64 (rem 64 c)))) in
-    ap₂ bitXor (ap₂ bitXor (ap₂ bitXor (pair 192 b a) (pair 128 c hi)) (pair 64 d lo)) (rem-xor 64 e a)
-    ∙ solve (shifts 192 (rem 64 b) ∷ shifts 192 ra ∷ shifts 128 (rem 64 c) ∷ shifts 128 (rem 64 hi) ∷ shifts 64 (rem 64 d) ∷ shifts 64 (rem 64 lo) ∷ rem 64 e ∷ ra ∷ [])
+    let hi = a * 281474976710656 % 18446744073709551616 in
+    let lo = a / 65536 in
+    let ra = remLittle 8 a in
+    let h80 : up 80 a ≡ bitXor (up 128 hi) (up 64 lo) =
+    shifts-add 64 16 ra ∙ ap (shifts 64) (little-shift 2 6 a h)
+    ∙ shifts-xor 64 (up 64 hi) (remLittle 8 lo) (up-lt 64 hi) (little-lt 8 lo) ∙ ap (λ (x : ℕ). bitXor x (up 64 lo)) (up-more 64 hi) in
+    let h256 : up 256 a ≡ bitXor (bitXor (up 192 a) (bitXor (up 128 hi) (up 64 lo))) ra =
+    rule-256 ra (little-lt 8 a) ∙ ap (λ (x : ℕ). bitXor (bitXor (up 192 a) x) ra) h80 in
+    four-sum (bitXor b a) (bitXor c hi) (bitXor d lo) (bitXor e a)
+    ∙ ap₂ bitXor (ap₂ bitXor (ap₂ bitXor (up-xor 192 b a) (up-xor 128 c hi)) (up-xor 64 d lo)) (little-xor 8 e a)
+    ∙ solve (up 192 b ∷ up 192 a ∷ up 128 c ∷ up 128 hi ∷ up 64 d ∷ up 64 lo ∷ remLittle 8 e ∷ ra ∷ [])
     (both (both (both (both (var 0) (var 1)) (both (var 2) (var 3))) (both (var 4) (var 5))) (both (var 6) (var 7)))
-    (both (both (both (both (both (both (var 1) (both (var 5) (var 3))) (var 7)) (var 0)) (var 2)) (var 4)) (var 6)) refl
-    ∙ ap (λ (x : ℕ). bitXor (bitXor (bitXor (bitXor x (shifts 192 (rem 64 b))) (shifts 128 (rem 64 c))) (shifts 64 (rem 64 d))) (rem 64 e)) (sym h256)
-    ∙ ap (λ (x : ℕ). bitXor x (rem 64 e)) (sym right)
+    (both (both (both (both (both (both (var 1) (both (var 3) (var 5))) (var 7)) (var 0)) (var 2)) (var 4)) (var 6)) refl
+    ∙ ap (λ (x : ℕ). bitXor (bitXor (bitXor (bitXor x (up 192 b)) (up 128 c)) (up 64 d)) (remLittle 8 e)) (sym h256)
+    ∙ ap (λ (x : ℕ). bitXor x (remLittle 8 e)) (sym (four-more a b c d))
 
--- three folds make one word of the four
-pub four-last : (a b c d f g h : ℕ) → rem 64 f ≡ shifts 64 (rem 64 a) → rem 64 g ≡ shifts 64 (rem 64 (bitXor f b))
-    → rem 64 h ≡ shifts 64 (rem 64 (bitXor g c)) → rem 64 (bitXor h d) ≡ remFour a b c d
-unfolding remFour
-four-last a b c d f g h ef eg eh =
-    let ra = rem 64 a in
-    let rb = rem 64 b in
-    let rc = rem 64 c in
-    let one : rem 64 g ≡ bitXor (shifts 128 ra) (shifts 64 rb) =
-    eg ∙ pair 64 f b ∙ ap (λ (x : ℕ). bitXor x (shifts 64 rb)) (ap (shifts 64) ef ∙ sym (shifts-add 64 64 ra)) in
-    let two : rem 64 h ≡ bitXor (bitXor (shifts 192 ra) (shifts 128 rb)) (shifts 64 rc) =
-    eh ∙ pair 64 g c
-    ∙ ap (λ (x : ℕ). bitXor x (shifts 64 rc))
-    (ap (shifts 64) one ∙ shifts-xor 64 (shifts 128 ra) (shifts 64 rb) (shifts-lt 128 ra (rem-lt 64 a)) (shifts-lt 64 rb (rem-lt 64 b))
-    ∙ ap₂ bitXor (sym (shifts-add 64 128 ra)) (sym (shifts-add 64 64 rb))) in
-    rem-xor 64 h d ∙ ap (λ (x : ℕ). bitXor x (rem 64 d)) two
+-- ---- three words folded into two
+module _ (a : ℕ) where
+  abbrev half : ℕ
+  half = a * 4294967296 % 18446744073709551616
 
--- FFFF in front of a word
-start-top : rem 64 18446462598732840960 ≡ shifts 64 33999
-unfolding rem shifts shift
-start-top = refl
+  abbrev quotient : ℕ
+  quotient = bitXor a half
 
--- the first four words, with FFFF taken into the first
-pub four-first : (s : List ℕ) (a b c d : ℕ) → Word 8 s 0 a → Word 8 s 8 b → Word 8 s 16 c → Word 8 s 24 d → 32 ≤ length s
-    → crcFrom 65535 s ≡ crcFrom (shifts 16 (remFour (bitXor a 18446462598732840960) b c d)) (drop 32 s)
-unfolding remFour
+  -- the quotient shifted is the word shifted
+  quotient-half : quotient * 4294967296 % 18446744073709551616 ≡ half
+  quotient-half =
+      let none : half * 4294967296 % 18446744073709551616 ≡ 0 = omega arith in
+      ap (λ (x : ℕ). x % 18446744073709551616) (xor-shl a half 32) ∙ xor-mod (a * 4294967296) (half * 4294967296) 64
+      ∙ ap (bitXor half) none ∙ xor-zero-r half
+
+  pub three-fold : (b c : ℕ) → a < 18446744073709551616
+      → remTwo (bitXor (bitXor b (quotient / 4294967296)) (quotient * 16777216 % 18446744073709551616)) (bitXor (bitXor c (quotient / 1099511627776)) quotient)
+      ≡ remThree a b c
+  unfolding remTwo
+  three-fold b c h =
+      let q = quotient in
+      let rq = remLittle 8 q in
+      let q32 = q / 4294967296 in
+      let q24 = q * 16777216 % 18446744073709551616 in
+      let q40 = q / 1099511627776 in
+      let hq : q < 18446744073709551616 = xor-lt 64 a half h (mod-lt (a * 4294967296) (lit< tt)) in
+      let h96 : up 96 q ≡ bitXor (up 128 half) (up 64 q32) =
+      shifts-add 64 32 rq ∙ ap (shifts 64) (little-shift 4 4 q hq ∙ ap (λ (x : ℕ). bitXor (up 64 x) (remLittle 8 q32)) quotient-half)
+      ∙ shifts-xor 64 (up 64 half) (remLittle 8 q32) (up-lt 64 half) (little-lt 8 q32) ∙ ap (λ (x : ℕ). bitXor x (up 64 q32)) (up-more 64 half) in
+      let h128 : up 128 q ≡ bitXor (bitXor (bitXor (up 128 half) (up 64 q32)) (bitXor (up 64 q24) (remLittle 8 q40))) rq =
+      rule-128 rq (little-lt 8 q) ∙ ap₂ (λ (x y : ℕ). bitXor (bitXor x y) rq) h96 (little-shift 5 3 q hq) in
+      let back : up 128 a ≡ bitXor (up 128 q) (up 128 half) =
+      ap (up 128) (solve (a ∷ half ∷ []) (var 0) (both (both (var 0) (var 1)) (var 1)) refl) ∙ up-xor 128 q half in
+      ap₂ bitXor
+      (up-xor 64 (bitXor b q32) q24 ∙ ap (λ (x : ℕ). bitXor x (up 64 q24)) (up-xor 64 b q32))
+      (little-xor 8 (bitXor c q40) q ∙ ap (λ (x : ℕ). bitXor x rq) (little-xor 8 c q40))
+      ∙ solve (up 64 b ∷ up 64 q32 ∷ up 64 q24 ∷ remLittle 8 c ∷ remLittle 8 q40 ∷ rq ∷ up 128 half ∷ [])
+      (both (both (both (var 0) (var 1)) (var 2)) (both (both (var 3) (var 4)) (var 5)))
+      (both (both (both (both (both (both (var 6) (var 1)) (both (var 2) (var 4))) (var 5)) (var 6)) (var 0)) (var 3)) refl
+      ∙ ap (λ (x : ℕ). bitXor (bitXor x (up 64 b)) (remLittle 8 c)) (sym (back ∙ ap (λ (x : ℕ). bitXor x (up 128 half)) h128))
+      ∙ sym (three-sum a b c)
+
+-- two such folds make two words, v and w, of the four; these are swapped, to x and y, and the first of them is folded, to f
+pub four-last : (a b c d t u v w x y f : ℕ) → remTwo t u ≡ remThree a b c → remTwo v w ≡ remThree t u d
+    → rem 64 x ≡ remLittle 8 v → rem 64 f ≡ shifts 64 (rem 64 x) → rem 64 y ≡ remLittle 8 w → rem 64 (bitXor f y) ≡ remFour a b c d
+unfolding remTwo remThree remFour
+four-last a b c d t u v w x y f once twice ex ef ey =
+    rem-xor 64 f y ∙ ap₂ bitXor (ef ∙ ap (shifts 64) ex) ey ∙ twice ∙ ap (λ (z : ℕ). bitXor (shifts 64 z) (remLittle 8 d)) once
+
+pub four-first : (s : List ℕ) (a b c d : ℕ) → Little 8 s 0 a → Little 8 s 8 b → Little 8 s 16 c → Little 8 s 24 d → 32 ≤ length s
+    → crcFrom 65535 s ≡ crcFrom (shifts 16 (behindStart 256 (remFour a b c d))) (drop 32 s)
+unfolding remTwo remThree remFour
 four-first s a b c d wa wb wc wd long =
-    let top = bitXor a 18446462598732840960 in
-    let x1 = rem 64 top in
-    let x2 = bitXor (shifts 64 x1) (rem 64 b) in
-    let x3 = bitXor (shifts 64 x2) (rem 64 c) in
-    let l1 = rem-lt 64 top in
-    let l2 = xor-lt 16 (shifts 64 x1) (rem 64 b) (shifts-lt 64 x1 l1) (rem-lt 64 b) in
-    let l3 = xor-lt 16 (shifts 64 x2) (rem 64 c) (shifts-lt 64 x2 l2) (rem-lt 64 c) in
-    let first : bitXor (shifts 64 33999) (rem 64 a) ≡ x1 =
-    ap (λ (x : ℕ). bitXor x (rem 64 a)) (sym start-top)
-    ∙ solve (rem 64 18446462598732840960 ∷ rem 64 a ∷ []) (both (var 0) (var 1)) (both (var 1) (var 0)) refl
-    ∙ sym (rem-xor 64 a 18446462598732840960) in
-    let sum : bitXor (shifts 64 x3) (rem 64 d) ≡ remFour top b c d =
-    ap (λ (x : ℕ). bitXor x (rem 64 d))
-    (shifts-xor 64 (shifts 64 x2) (rem 64 c) (shifts-lt 64 x2 l2) (rem-lt 64 c)
-    ∙ ap (λ (x : ℕ). bitXor x (shifts 64 (rem 64 c)))
-    (sym (shifts-add 64 64 x2) ∙ shifts-xor 128 (shifts 64 x1) (rem 64 b) (shifts-lt 64 x1 l1) (rem-lt 64 b)
-    ∙ ap (λ (x : ℕ). bitXor x (shifts 128 (rem 64 b))) (sym (shifts-add 128 64 x1)))) in
-    ap (λ (x : ℕ). crcFrom x s) (sym start) ∙ crc-word 8 33999 (lit< tt) wa (omega arith) ∙ ap (λ (x : ℕ). crcFrom (shifts 16 x) (drop 8 s)) first
-    ∙ crc-word 8 x1 l1 wb (omega arith) ∙ crc-word 8 x2 l2 wc (omega arith) ∙ crc-word 8 x3 l3 wd long
-    ∙ ap (λ (x : ℕ). crcFrom (shifts 16 x) (drop 32 s)) sum
+    let front : remLittle 8 a ≡ bitXor (shifts 64 0) (remLittle 8 a) = sym (ap (λ (x : ℕ). bitXor x (remLittle 8 a)) (shifts-zero 64)) in
+    start-little s
+    ∙ crc-behind 8 0 0 (remLittle 8 a) (lit< tt) front wa (omega arith)
+    ∙ crc-behind 8 64 (remLittle 8 a) (remTwo a b) (little-lt 8 a) refl wb (omega arith)
+    ∙ crc-behind 8 128 (remTwo a b) (remThree a b c) (two-lt a b) refl wc (omega arith)
+    ∙ crc-behind 8 192 (remThree a b c) (remFour a b c d) (three-lt a b c) refl wd long

@@ -2,6 +2,7 @@ pub mod XorLaws
 pub mod XorSolver
 pub mod ShiftLaws
 pub mod RemainderLaws
+pub mod LittleLaws
 pub mod RuleLaws
 pub mod FoldLaws
 pub mod CrcLaws

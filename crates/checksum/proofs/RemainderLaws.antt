@@ -34,7 +34,7 @@ rem-xor (suc k) a b =
     ∙ solve (shift x ∷ shift y ∷ a % 2 ∷ b % 2 ∷ [])
     (both (both (var 0) (var 1)) (both (var 2) (var 3))) (both (both (var 0) (var 2)) (both (var 1) (var 3))) refl
 
-rem-zero : (k : ℕ) → rem k 0 ≡ 0
+pub rem-zero : (k : ℕ) → rem k 0 ≡ 0
 unfolding rem shift
 rem-zero zero = refl
 rem-zero (suc k) = ap (λ (x : ℕ). bitXor (shift x) 0) (rem-zero k)

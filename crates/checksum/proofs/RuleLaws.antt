@@ -1,4 +1,4 @@
--- What 16 shifts do, and 32, 64 and 256. Over two elements (a + b)^2 = a^2 + b^2, so the square of P = x^16 + x^12 + x^5 + 1
+-- What 16 shifts do, and 32, 64, 128 and 256. Over two elements (a + b)^2 = a^2 + b^2, so the square of P = x^16 + x^12 + x^5 + 1
 -- has as few terms, with the exponents doubled; and so have the squares of that. Each of them leaves nothing after
 -- division by P, so x^32 leaves what x^24 + x^10 + 1 does, x^64 what x^48 + x^20 + 1 does, and so on.
 -- Assumes nothing.
@@ -83,5 +83,8 @@ rule-32 = rule-double 16 12 5 rule-16
 pub rule-64 : Rule 64 48 20
 rule-64 = rule-double 32 24 10 rule-32
 
+pub rule-128 : Rule 128 96 40
+rule-128 = rule-double 64 48 20 rule-64
+
 pub rule-256 : Rule 256 192 80
-rule-256 = rule-double 128 96 40 (rule-double 64 48 20 rule-64)
+rule-256 = rule-double 128 96 40 rule-128

@@ -1,11 +1,11 @@
 -- Laws of the exclusive or that `lib.Bits` lacks.
 -- Assumes nothing.
-use Prim.Native.Nat.{ℕ, zero, suc, _+_, _*_, _/_, _%_, _^_, _<_}
+use Prim.Native.Nat.{ℕ, zero, suc, _+_, _-_, _*_, _/_, _%_, _^_, _<_}
 use mathlib.Core.Path.{_≡_, refl, sym, ap, ap₂, _∙_}
-use native.Mathlib.Nat.{mod-lt, zero-lt-suc, add-zero, div-add-mod'}
+use native.Mathlib.Nat.{mod-lt, zero-lt-suc, add-zero, div-add-mod', mod-eq-of-lt}
 use native.Mathlib.Omega.{arith}
 use lib.Arith.{bin-ind}
-use lib.Bits.{bitXor, xor-shr, xor-mod, xor-block}
+use lib.Bits.{bitXor, bitAnd, and-mask, xor-add-and, xor-shr, xor-mod, xor-block}
 use lib.Pow.{pow-pos}
 
 -- at single bits, case by case
@@ -38,3 +38,11 @@ pub xor-shl : (a b k : ℕ) → bitXor a b * 2 ^ k ≡ bitXor (a * 2 ^ k) (b * 2
 xor-shl a b k =
     sym (ap₂ bitXor (sym (add-zero (a * 2 ^ k))) (sym (add-zero (b * 2 ^ k))) ∙ xor-block k a b 0 0 (pow-pos k) (pow-pos k)
     ∙ add-zero (bitXor a b * 2 ^ k))
+
+-- digits turned are those of the difference to all ones
+pub xor-ones : (k n : ℕ) → n < 2 ^ k → 2 ^ k - 1 - n ≡ bitXor n (2 ^ k - 1)
+xor-ones k n h =
+    let ones = 2 ^ k - 1 in
+    let same : bitAnd n ones ≡ n = and-mask n k ∙ mod-eq-of-lt h in
+    let sum : bitXor n ones + bitAnd n ones * 2 ≡ n + ones = xor-add-and n ones in
+    omega arith

@@ -1,15 +1,16 @@
-// The 62 bytes of a block, by a polynomial of four words: P^16 = x^256 + x^192 + x^80 + 1, so the word that a step moves out
-// at the top comes back in three places, and no step waits long for the one before.
+// The 62 bytes of a block, in words loaded little endian: the powers of P used here shift by whole bytes, which words in that
+// order do as well, the other way round. P^16 = x^256 + x^192 + x^80 + 1, so the word that a step moves out at the top of four
+// comes back in three places, and no step waits long for the one before.
 use crate::folding::fold64;
 use crate::folding::remainder;
-use loads::word6;
-use loads::word8;
+use loads::little6;
+use loads::little8;
 ghost use mathlib.Core.Path.{_≡_};
 ghost use Prim.Native.Nat.{_≤_};
 ghost use lib.ListN.{length, drop};
 ghost use lib.Bits.{bitXor};
-ghost use Rattle.checksum.specs.Crc.{shifts, crcFrom};
-ghost use Rattle.checksum.specs.Polynomial.{rem, remFour};
+ghost use Rattle.checksum.specs.Crc.{shifts, crcFrom, checksumOf};
+ghost use Rattle.checksum.specs.Polynomial.{rem, remLittle, remTwo, remThree, remFour, behindStart};
 
 // A polynomial of 256 digits, the highest in a.
 struct Four {
@@ -19,45 +20,79 @@ struct Four {
     d: u64,
 }
 
+// A polynomial of 128 digits, the higher ones in a.
+struct Two {
+    a: u64,
+    b: u64,
+}
+
 // Four words with a fifth behind them, folded into four.
 fn step(f: Four, e: u64) -> Four
-    ensures { λ r. ⌜ remFour (r .a) (r .b) (r .c) (r .d) ≡ bitXor (shifts 64 (remFour (f .a) (f .b) (f .c) (f .d))) (rem 64 e) ⌝ }
+    ensures { λ r. ⌜ remFour (r .a) (r .b) (r .c) (r .d) ≡ bitXor (shifts 64 (remFour (f .a) (f .b) (f .c) (f .d))) (remLittle 8 e) ⌝ }
 {
     Four {
         a: f.b ^ f.a,
-        b: f.c ^ (f.a >> 48),
-        c: f.d ^ (f.a << 16),
+        b: f.c ^ (f.a << 48),
+        c: f.d ^ (f.a >> 16),
         d: e ^ f.a,
     }
+}
+
+// Three words folded into two, by P^8 = x^128 + x^96 + x^40 + 1.
+fn fold128(a: u64, b: u64, c: u64) -> Two
+    ensures { λ r. ⌜ remTwo (r .a) (r .b) ≡ remThree a b c ⌝ }
+{
+    let q = a ^ (a << 32);
+    Two {
+        a: b ^ (q >> 32) ^ (q << 24),
+        b: c ^ (q >> 40) ^ q,
+    }
+}
+
+// A word with its bytes in the other order. The compiler makes one instruction of this expression.
+fn swap(x: u64) -> u64
+    ensures { λ r. ⌜ rem 64 r ≡ remLittle 8 x ⌝ }
+{
+    (x % 256 << 56)
+        ^ ((x >> 8) % 256 << 48)
+        ^ ((x >> 16) % 256 << 40)
+        ^ ((x >> 24) % 256 << 32)
+        ^ ((x >> 32) % 256 << 24)
+        ^ ((x >> 40) % 256 << 16)
+        ^ ((x >> 48) % 256 << 8)
+        ^ ((x >> 56) % 256)
 }
 
 // The remainder of four words.
 fn last(f: Four) -> u16
     ensures { λ r. ⌜ r ≡ remFour (f .a) (f .b) (f .c) (f .d) ⌝ }
 {
-    remainder(fold64(fold64(fold64(f.a) ^ f.b) ^ f.c) ^ f.d)
+    let t = fold128(f.a, f.b, f.c);
+    let u = fold128(t.a, t.b, f.d);
+    remainder(fold64(swap(u.a)) ^ swap(u.b))
 }
 
-// The first four words, with FFFF added to the first two bytes.
+// The first four words.
 fn first(bytes: &[u8]) -> Four
     requires { ⌜ 32 ≤ length (now bytes) ⌝ }
-    ensures { λ r. ⌜ crcFrom 65535 (now (bytes .entry)) ≡ crcFrom (shifts 16 (remFour (r .a) (r .b) (r .c) (r .d))) (drop 32 (now (bytes .entry))) ⌝ }
+    ensures { λ r. ⌜ crcFrom 65535 (now (bytes .entry)) ≡ crcFrom (shifts 16 (behindStart 256 (remFour (r .a) (r .b) (r .c) (r .d)))) (drop 32 (now (bytes .entry))) ⌝ }
 {
     Four {
-        a: word8(bytes, 0) ^ 18446462598732840960,
-        b: word8(bytes, 8),
-        c: word8(bytes, 16),
-        d: word8(bytes, 24),
+        a: little8(bytes, 0),
+        b: little8(bytes, 8),
+        c: little8(bytes, 16),
+        d: little8(bytes, 24),
     }
 }
 
-// The running value after 62 bytes: seven words, and six bytes that 16 shifts stand behind.
+// The checksum of 62 bytes: seven words, and six bytes that 16 shifts stand behind. FFFF at the start leaves 51675 behind so many
+// digits, whatever they are; 13860 is that inverted.
 pub fn of_block(bytes: &[u8]) -> u16
     requires { ⌜ length (now bytes) ≡ 62 ⌝ }
-    ensures { λ r. ⌜ r ≡ crcFrom 65535 (now (bytes .entry)) ⌝ }
+    ensures { λ r. ⌜ r ≡ checksumOf (now (bytes .entry)) ⌝ }
 {
-    let f4 = step(first(bytes), word8(bytes, 32));
-    let f5 = step(f4, word8(bytes, 40));
-    let f6 = step(f5, word8(bytes, 48));
-    last(step(f6, word6(bytes, 56) << 16))
+    let f4 = step(first(bytes), little8(bytes, 32));
+    let f5 = step(f4, little8(bytes, 40));
+    let f6 = step(f5, little8(bytes, 48));
+    last(step(f6, little6(bytes, 56))) ^ 13860
 }

@@ -26,19 +26,13 @@ fn of_words(bytes: &[u8]) -> u16
     rest(bytes, i, fold16(remainder(a)))
 }
 
-// The running value after all bytes; a run of 62, which a block of an image has, by the quicker way.
-fn crc_of(bytes: &[u8]) -> u16
-    ensures { λ r. ⌜ r ≡ crcFrom 65535 (now (bytes .entry)) ⌝ }
+// The checksum of these bytes; that of a run of 62, which a block of an image has, by the quicker way. For a block of an image,
+// lend the part that begins there.
+pub fn checksum(bytes: &[u8]) -> u16
+    ensures { λ r. ⌜ r ≡ checksumOf (now (bytes .entry)) ⌝ }
 {
     if bytes.len() == 62 {
         return of_block(bytes);
     }
-    of_words(bytes)
-}
-
-// The checksum of these bytes. For a block of an image, lend the part that begins there.
-pub fn checksum(bytes: &[u8]) -> u16
-    ensures { λ r. ⌜ r ≡ checksumOf (now (bytes .entry)) ⌝ }
-{
-    !crc_of(bytes)
+    !of_words(bytes)
 }

@@ -20,28 +20,12 @@ fn long(x: u32) -> u64
     x as u64
 }
 
-// The two bytes from a place, big endian.
-fn word2(s: &[u8], at: usize) -> u32
-    requires { ⌜ at + 2 ≤ length (now s) ⌝ }
-    ensures { λ r. ⌜ Word 2 (now (s .entry)) at r ⌝ }
-{
-    (wide(s[at]) << 8) | wide(s[at + 1])
-}
-
 // The four bytes from a place, big endian.
 fn word4(s: &[u8], at: usize) -> u32
     requires { ⌜ at + 4 ≤ length (now s) ⌝ }
     ensures { λ r. ⌜ Word 4 (now (s .entry)) at r ⌝ }
 {
     (wide(s[at]) << 24) | (wide(s[at + 1]) << 16) | (wide(s[at + 2]) << 8) | wide(s[at + 3])
-}
-
-// The six bytes from a place, big endian.
-pub fn word6(s: &[u8], at: usize) -> u64
-    requires { ⌜ at + 6 ≤ length (now s) ⌝ }
-    ensures { λ r. ⌜ Word 6 (now (s .entry)) at r ⌝ }
-{
-    (long(word4(s, at)) << 16) | long(word2(s, at + 4))
 }
 
 // The eight bytes from a place, big endian.

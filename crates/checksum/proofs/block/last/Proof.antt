@@ -6,25 +6,39 @@ use Rattle.checksum.proofs.FourLaws.{four-last}
 use Rattle.checksum.proofs.block.last.Statement.{statement}
 use Rattle.checksum.proofs.block.last.Tie as tie
 
+fold128-requires : tie.Need-fold128-requires
+fold128-requires c κs = search needs
+
+fold128-requires-2 : tie.Need-fold128-requires-2
+fold128-requires-2 c κs = search needs
+
+swap-requires : tie.Need-swap-requires
+swap-requires c κs = search needs
+
 fold64-requires : tie.Need-fold64-requires
 fold64-requires c κs = search needs
 
-fold64-requires-2 : tie.Need-fold64-requires-2
-fold64-requires-2 c κs = search needs
-
-fold64-requires-3 : tie.Need-fold64-requires-3
-fold64-requires-3 c κs = search needs
+swap-requires-2 : tie.Need-swap-requires-2
+swap-requires-2 c κs = search needs
 
 remainder-requires : tie.Need-remainder-requires
 remainder-requires c κs = search needs
 
 returns : tie.Need-returns
 returns c =
-    let x = c .before .before .before .before .before .before .before .args .f in
-    let f = c .before .before .before .before .before .before .fold64 in
-    let g = c .before .before .before .before .fold642 in
-    let h = c .before .before .fold643 in
-    c .remainder .ensures ∙ four-last (x .a) (x .b) (x .c) (x .d) (f .result) (g .result) (h .result) (f .ensures) (g .ensures) (h .ensures)
+    let swapped = c .before in
+    let folded = swapped .before in
+    let swapped-first = folded .before in
+    let twice = swapped-first .before in
+    let once = twice .before in
+    let f = once .before .args .f in
+    c .remainder .ensures
+    ∙ four-last (f .a) (f .b) (f .c) (f .d) (once .fold128 .result .a) (once .fold128 .result .b)
+    (twice .fold1282 .result .a) (twice .fold1282 .result .b)
+    (swapped-first .swap .result) (swapped .swap2 .result) (folded .fold64 .result)
+    (once .fold128 .ensures) (twice .fold1282 .ensures) (swapped-first .swap .ensures) (folded .fold64 .ensures) (swapped .swap2 .ensures)
 
 pub last-spec : {M : Type 1} → statement M
-last-spec = tie.close (tie.spec fold64-requires fold64-requires-2 fold64-requires-3 remainder-requires returns)
+last-spec =
+    tie.close
+    (tie.spec fold128-requires fold128-requires-2 swap-requires fold64-requires swap-requires-2 remainder-requires returns)
