@@ -15,7 +15,7 @@ use Rattle.words.specs.Lists.{keep, anyOf, has, Distinct, isSome, numbersFrom}
 use Rattle.words.proofs.Bools.{or-false-left, or-false-right}
 use Rattle.words.proofs.ListLaws.{All, all-mono}
 use Rattle.words.proofs.LoopLaws.{numbers-next, numbers-end}
-use Rattle.card_model.specs.declared.Link.the-variants.{Free, Damaged, Last, Next, Bad}
+use Rattle.card_model.specs.declared.Link.{Link}
 use Rattle.card_model.specs.Table.{fatEntry, linkOf, linkAt, freeOrDamaged}
 use Rattle.card_model.specs.Entries.{isUsed, wrongEntry, entryAt}
 use Rattle.card_model.specs.Files.{chainOf, badChain, fileOf, filesBefore, sharesBlock, isOrphan, orphans}
@@ -167,23 +167,12 @@ module _ (table : List ℕ) (directory : List (List ℕ)) where
 
   -- ---- orphans
 
-  in-use : (e : ℕ) → not (freeOrDamaged (linkOf e)) ≡ (not (eqb e 0xFFFC) && not (eqb e 0xFFFF))
-  unfolding linkOf
-  in-use e = go (eqb e 0xFFFC) (eqb e 0xFFFF) (eqb e 0xFFFA) (ltb e 200)
-    where
-      go : (f d l n : Bool) → not (freeOrDamaged (cond f Free (cond d Damaged (cond l Last (cond n (Next e) Bad))))) ≡ (not f && not d)
-      go true d l n = refl
-      go false true l n = refl
-      go false false true n = refl
-      go false false false true = refl
-      go false false false false = refl
-
   pub orphan-is : (b : ℕ) {marks : List ℕ} → marks ≡ fileMarks table directory 208 → b < 200 → (e : ℕ) → e ≡ fatEntry table b
-      → isOrphan table directory b ≡ ((not (eqb e 0xFFFC) && not (eqb e 0xFFFF)) && eqb (getD marks b 0) 0)
+      → (l : Link) → l ≡ linkOf e → (unused : Bool) → unused ≡ freeOrDamaged l → isOrphan table directory b ≡ (not unused && eqb (getD marks b 0) 0)
   unfolding isOrphan linkAt isMarked
-  orphan-is b {marks} m h e q =
+  orphan-is b {marks} m h e q l p unused u =
       let unmarked = ap not (sym (files-marked 208 b h)) ∙ Bool·not-not (eqb (getD (fileMarks table directory 208) b 0) 0) in
-      rw (m, q, in-use (fatEntry table b), unmarked)
+      rw (m, u, p, q, unmarked)
 
 -- ---- how many numbers from k on, below e, pass
 

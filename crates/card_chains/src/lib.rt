@@ -10,7 +10,9 @@ use card_directory::entry::entry_at;
 use card_directory::entry::first_block;
 use card_directory::entry::size;
 use card_directory::listing::listed_at;
+use card_table::classify;
 use card_table::fat_entry;
+use card_table::free_or_damaged;
 use card_table::read_table;
 use verdicts::Place;
 use verdicts::Verdict;
@@ -87,8 +89,8 @@ fn orphan_at(card: &[u8], marks: &[u8; 200], b: usize) -> u8
     requires { ⌜ now marks ≡ fileMarks (tableOf (now card)) (directoryOf (now card)) 208 ⌝ }
     ensures { λ r. ⌜ (r ≡ cond (isOrphan (tableOf (now (card .entry))) (directoryOf (now (card .entry))) b) 1 0) × (r ≤ 1) ⌝ }
 {
-    let e = fat_entry(card, b);
-    if ((e != 0xFFFC) & (e != 0xFFFF)) & (marks[b] == 0) {
+    let unused = free_or_damaged(classify(fat_entry(card, b)));
+    if !unused & (marks[b] == 0) {
         return 1;
     }
     0

@@ -13,14 +13,10 @@ fn wide(e: u16) -> usize
     e as usize
 }
 
-// What the table says of a block. Most blocks of a file name the next one, so that is tested first.
+// What the table says of a block.
 pub(crate) fn link_in(table: &[u16; 256], b: usize) -> Link
     requires { ⌜ b < 256 ⌝ }
     ensures { λ r. ⌜ r ≡ linkAt (now (table .entry)) b ⌝ }
 {
-    let e = wide(table[b]);
-    if e < 200 {
-        return Link::Next(e);
-    }
-    classify(e)
+    classify(wide(table[b]))
 }

@@ -68,7 +68,7 @@ pub fn classify(e: usize) -> Link
     }
 }
 
-fn free_or_damaged(link: Link) -> bool
+pub fn free_or_damaged(link: Link) -> bool
     ensures { λ r. ⌜ r ≡ freeOrDamaged link ⌝ }
 {
     match link {

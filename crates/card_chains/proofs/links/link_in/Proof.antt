@@ -1,5 +1,5 @@
 -- `link_in` meets its contract. Assumes nothing.
-use Rattle.card_chains.proofs.LinkLaws.{link-read, next-read}
+use Rattle.card_chains.proofs.LinkLaws.{link-read}
 use borrow.Author.Needs.{needs}
 use Rattle.card_chains.proofs.links.link_in.Statement.{statement}
 use Rattle.card_chains.proofs.links.link_in.Tie as tie
@@ -13,16 +13,11 @@ element-copy-out-wide c = search needs
 wide-requires : tie.Need-wide-requires
 wide-requires c κs = search needs
 
-returns : tie.Need-returns
-returns c = next-read _ _ (c .before .wide .ensures) (c .if1 .taken)
-
 classify-requires : tie.Need-classify-requires
 classify-requires c κs = search needs
 
-returns-2 : tie.Need-returns-2
-returns-2 c = link-read _ _ (c .before .before .wide .ensures) (c .classify .ensures)
+returns : tie.Need-returns
+returns c = link-read _ _ (c .before .wide .ensures) (c .classify .ensures)
 
 pub link-in-spec : {M : Type 1} → statement M
-link-in-spec =
-    tie.close
-    (tie.spec mul-wide element-copy-out-wide wide-requires returns classify-requires returns-2)
+link-in-spec = tie.close (tie.spec mul-wide element-copy-out-wide wide-requires classify-requires returns)
