@@ -19,6 +19,7 @@ use Rattle.flash_model.proofs.MeasureLaws.{legal-below}
 use Rattle.flash_model.proofs.HolderLaws.{matches}
 use Rattle.flash_model.proofs.MeaningLaws.{next-live, live-none}
 use Rattle.partition.specs.Usable.{Usable}
+use Rattle.distances.specs.Numbers.{Clear, Seen}
 use Rattle.listing.specs.Listing.{lowered, asNext}
 use Rattle.partition.proofs.UsableLaws.{usable-measured, holder-some}
 
@@ -44,13 +45,6 @@ module _ (start best n : ℕ) (block : List ℕ) (e : number block ≡ n) where
   lowered-wrong r = rw (r, and-false, and-false)
 
 -- ---- all blocks passed so far
-
--- some block below k matches the number
-pub record Seen (image : List ℕ) (k n : ℕ) : Type 0 where
-  pub at : ℕ
-  pub low : 1 ≤ at
-  pub below : at < k
-  pub here : matches n (blockAt image at) ≡ true
 
 -- the best so far, where the blocks below k are passed: the lowest of their numbers from the start on, or the end
 pub record Best (image : List ℕ) (start end k best : ℕ) : Type 0 where
@@ -113,6 +107,29 @@ module _ (image : List ℕ) (start end k best : ℕ) (b : Best image start end k
       go true a true c false d = kept (λ n h l. rw d (and-false (eqb (number (blockAt image k)) n)))
       go true a false c v d = kept (λ n h l. rw (ne-eqb (number (blockAt image k)) n (λ z. omega (arith, z, l, ltb-false (number (blockAt image k)) best c))))
       go false a u c v d = kept (λ n h l. rw (ne-eqb (number (blockAt image k)) n (λ z. omega (arith, z, h, leb-false start (number (blockAt image k)) a))))
+
+-- ---- the nearest number, and no checksum but its own
+
+module _ (image : List ℕ) (start end k least : ℕ) (c : Clear image start least 1 k) where
+  nearer-none : (n j : ℕ) → start ≤ n → n < start + least → 1 ≤ j → j < k → matches n (blockAt image j) ≡ false
+  nearer-none n j a b lo hi = rw (ne-eqb (number (blockAt image j)) n (λ z. omega (arith, z, b, c .not-nearer j lo hi (omega (arith, z, a)))))
+
+  pub best-near : start + least < end → Seen image k (start + least) → Best image start end k (start + least)
+  best-near h s = record {
+    bound = omega arith;
+    not-below = λ _. omega arith;
+    is-seen = λ _. s;
+    none-lower = λ n j a b lo hi. nearer-none n j a b lo hi;
+  }
+
+  -- the nearest number is past the top
+  pub best-far : end ≤ start + least → Best image start end k end
+  best-far h = record {
+    bound = omega arith;
+    not-below = λ l. absurd (omega arith);
+    is-seen = λ l. absurd (omega arith);
+    none-lower = λ n j a b lo hi. nearer-none n j a (omega arith) lo hi;
+  }
 
 -- ---- what the blocks passed say of contents
 

@@ -1,4 +1,6 @@
 // One pass over the used blocks for whatever looks at all numbers.
+use distances::nearest;
+use distances::seen_in_eight;
 use measures::Measures;
 use partition::blocks::part_from;
 use partition::blocks::right_checksum;
@@ -6,7 +8,7 @@ use words::word;
 ghost use mathlib.Core.Path.{_≡_};
 ghost use mathlib.Core.Bool.{cond};
 ghost use mathlib.Core.List.{_++_};
-ghost use Prim.Native.Nat.{_≤_};
+ghost use Prim.Native.Nat.{_≤_, _<_};
 ghost use lib.ListN.{length, take, drop};
 ghost use Rattle.flash_model.specs.Measures.{capacity};
 ghost use Rattle.flash_model.specs.Partition.{live, lowestLive};
@@ -76,15 +78,14 @@ fn lower(part: &[u8], start: usize, best: usize) -> usize
     best
 }
 
-// The lowest live number not below the start. None is lower than the start itself, so the pass ends where that is found.
-pub fn next_number(image: &[u8], m: Measures, used: usize, start: usize) -> Next
+// The lowest live number not below the start, whatever checksums are wrong. None is lower than the start itself, so the pass ends
+// where that is found.
+fn lowest_right(image: &[u8], m: Measures, used: usize, start: usize) -> Next
     requires { ⌜ Usable (now image) (m .size) used ⌝ }
+    requires { ⌜ start < capacity (m .size) ⌝ }
     ensures { λ r. ⌜ r ≡ asNext (lowestLive (now (image .entry)) start) ⌝ }
 {
     let end = m.capacity();
-    if end <= start {
-        return Next::Nothing;
-    }
     let mut best = end;
     let mut k: usize = 1;
     while k <= used {
@@ -99,4 +100,25 @@ pub fn next_number(image: &[u8], m: Measures, used: usize, start: usize) -> Next
     } else {
         Next::Nothing
     }
+}
+
+// The lowest live number not below the start. Most checksums are right, so the nearest number is found without them, and only
+// where that has none that is right are the others worked.
+pub fn next_number(image: &[u8], m: Measures, used: usize, start: usize) -> Next
+    requires { ⌜ Usable (now image) (m .size) used ⌝ }
+    ensures { λ r. ⌜ r ≡ asNext (lowestLive (now (image .entry)) start) ⌝ }
+{
+    let end = m.capacity();
+    if end <= start {
+        return Next::Nothing;
+    }
+    let near = nearest(image, m, used, start as u16);
+    let number = start + near.least as usize;
+    if end <= number {
+        return Next::Nothing;
+    }
+    if seen_in_eight(image, m, used, near.at, number) {
+        return Next::Number(number);
+    }
+    lowest_right(image, m, used, start)
 }

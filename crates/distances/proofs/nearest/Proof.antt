@@ -1,0 +1,96 @@
+-- `distances::nearest` meets its contract. The loop's invariant: no block passed is nearer. Assumes nothing.
+use Prim.Native.Nat.{_+_, _-_, _≤_}
+use mathlib.Core.Logic.{⊎-elim}
+use native.Mathlib.Omega.{arith}
+use Rattle.bitmap.proofs.BitReads.{over-measured}
+use Rattle.distances.specs.Numbers.{Clear}
+use Rattle.distances.proofs.ClearLaws.{clear-first, clear-at-start, clear-joined}
+use Rattle.distances.proofs.nearest.Statement.{statement}
+use Rattle.distances.proofs.nearest.Tie as tie
+
+abbrev Inv-loop : tie.InvT-loop
+Inv-loop image m used start least₀ at₀ k₀ least at k = Clear image start least 1 k × ((1 ≤ at) × (at ≤ used + 1)) × ((1 ≤ k) × (k ≤ used + 1))
+
+abbrev μ-loop : tie.MeasureT-loop
+μ-loop image m used start least₀ at₀ k₀ least at k = used + 1 - k
+
+loop-holds : tie.Need-loop-holds Inv-loop μ-loop
+loop-holds c = (clear-first _ _ _ _, (omega arith, omega arith), (omega arith, omega arith))
+
+add-loop : tie.Need-add-loop Inv-loop μ-loop
+add-loop c =
+    let a = c .before .before in
+    omega (arith, over-measured (a .args .image .now) (a .args .m .size) (a .pre .0) .two-bytes)
+
+add-least-in : tie.Need-add-least-in Inv-loop μ-loop
+add-least-in c =
+    let a = c .before .before .before in
+    omega (arith, over-measured (a .args .image .now) (a .args .m .size) (a .pre .0) .two-bytes)
+
+least-in-requires : tie.Need-least-in-requires Inv-loop μ-loop
+least-in-requires c κs = (c .before .before .before .pre .0, omega arith)
+
+returns : tie.Need-returns Inv-loop μ-loop
+returns c = (clear-at-start _ _ _ _, (omega arith, omega arith))
+
+add-k : tie.Need-add-k Inv-loop μ-loop
+add-k c =
+    let a = c .before .before .before .before .before .before in
+    omega (arith, over-measured (a .args .image .now) (a .args .m .size) (a .pre .0) .two-bytes)
+
+loop-less : tie.Need-loop-less Inv-loop μ-loop
+loop-less c = omega arith
+
+loop-again : tie.Need-loop-again Inv-loop μ-loop
+loop-again c =
+    let g = c .before .before in
+    let l = g .before .before in
+    let most : c .if2 .least ≤ l .loop .least = ⊎-elim (λ w. omega arith) (λ w. omega arith) (c .if2 .came) in
+    let most-here : c .if2 .least ≤ g .least-in .result = ⊎-elim (λ w. omega arith) (λ w. omega arith) (c .if2 .came) in (
+      clear-joined _ _ (l .loop .least) _ (l .loop .k) (l .loop .inv .0) (g .least-in .result) _ (c .if2 .least) (g .least-in .ensures) most most-here,
+      ⊎-elim (λ w. (omega arith, omega arith)) (λ w. (omega arith, omega arith)) (c .if2 .came),
+      (omega arith, omega arith),
+    )
+
+add-least-in-2 : tie.Need-add-least-in-2 Inv-loop μ-loop
+add-least-in-2 c =
+    let a = c .before .before .before in
+    omega (arith, over-measured (a .args .image .now) (a .args .m .size) (a .pre .0) .two-bytes)
+
+least-in-requires-2 : tie.Need-least-in-requires-2 Inv-loop μ-loop
+least-in-requires-2 c κs = (c .before .before .before .pre .0, omega arith)
+
+returns-2 : tie.Need-returns-2 Inv-loop μ-loop
+returns-2 c =
+    let g = c .before in
+    let l = g .before .before in (
+      clear-joined _ _ (l .loop .least) _ (l .loop .k) (l .loop .inv .0) (g .least-in2 .result) _ (g .least-in2 .result) (g .least-in2 .ensures) (omega arith) (omega arith),
+      l .loop .inv .2,
+    )
+
+returns-3 : tie.Need-returns-3 Inv-loop μ-loop
+returns-3 c =
+    let g = c .before in
+    let l = g .before .before in (
+      clear-joined _ _ (l .loop .least) _ (l .loop .k) (l .loop .inv .0) (g .least-in2 .result) _ (l .loop .least) (g .least-in2 .ensures) (omega arith) (omega arith),
+      l .loop .inv .1,
+    )
+
+pub nearest-spec : {M : Type 1} → statement M
+nearest-spec =
+    tie.close
+    (tie.spec
+    Inv-loop
+    μ-loop
+    loop-holds
+    add-loop
+    add-least-in
+    least-in-requires
+    returns
+    add-k
+    loop-less
+    loop-again
+    add-least-in-2
+    least-in-requires-2
+    returns-2
+    returns-3)

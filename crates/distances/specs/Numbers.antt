@@ -1,0 +1,20 @@
+-- Which numbers a row of blocks has, as a search for the next live number asks.
+-- Assumes nothing.
+use Prim.Native.Nat.{ℕ, _+_, _≤_, _<_}
+use mathlib.Core.Path.{_≡_}
+use mathlib.Core.Bool.{true, _&&_}
+use mathlib.Core.List.{List}
+use lib.Dec.{eqb}
+use Rattle.flash_model.specs.UserBlock.{number, rightChecksum}
+use Rattle.flash_model.specs.Partition.{blockAt}
+
+-- No block from `from` up to `to` has a number that is above the start by less than `least`.
+pub record Clear (image : List ℕ) (start least from to : ℕ) : Type 0 where
+  pub not-nearer : (j : ℕ) → from ≤ j → j < to → start ≤ number (blockAt image j) → start + least ≤ number (blockAt image j)
+
+-- Some user block below k has the number and a right checksum.
+pub record Seen (image : List ℕ) (k n : ℕ) : Type 0 where
+  pub at : ℕ
+  pub low : 1 ≤ at
+  pub below : at < k
+  pub here : (eqb (number (blockAt image at)) n && rightChecksum (blockAt image at)) ≡ true

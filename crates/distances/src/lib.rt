@@ -1,0 +1,101 @@
+// How far the numbers of the used blocks lie above a start: the least distance, found without any checksum.
+use measures::Measures;
+use partition::blocks::holds_number;
+use partition::blocks::part_from;
+use std::num::wrapping_sub_u16;
+use words::word;
+ghost use mathlib.Core.Path.{_≡_};
+ghost use mathlib.Core.Bool.{true};
+ghost use Prim.Native.Nat.{_+_, _%_, _^_, _<_, _≤_};
+ghost use lib.ListN.{length, take};
+ghost use Rattle.flash_model.specs.Measures.{capacity};
+ghost use Rattle.flash_model.specs.UserBlock.{number};
+ghost use Rattle.bitmap.specs.Over.{Over};
+ghost use Rattle.distances.specs.Numbers.{Clear, Seen};
+
+// The distance of the block that begins this part: its number less the start, in 16 bits. Numbers below the start come last.
+fn distance(part: &[u8], start: u16) -> u16
+    requires { ⌜ 64 ≤ length (now part) ⌝ }
+    ensures { λ r. ⌜ (r + start) % 2 ^ 16 ≡ number (take 64 (now (part .entry))) ⌝ }
+{
+    wrapping_sub_u16(word(part, 0) as u16, start)
+}
+
+fn lesser(a: u16, b: u16) -> u16
+    ensures { λ r. ⌜ (r ≤ a) × (r ≤ b) ⌝ }
+{
+    if a < b { a } else { b }
+}
+
+// The least distance of the blocks from `from` up to `to`. For eight blocks the compiler makes it one expression.
+fn least_in(image: &[u8], m: Measures, from: usize, to: usize, start: u16) -> u16
+    requires { ⌜ Over (now image) (m .size) ⌝ }
+    requires { ⌜ to ≤ capacity (m .size) + 1 ⌝ }
+    ensures { λ r. ⌜ Clear (now (image .entry)) start r from to ⌝ }
+{
+    let mut least = u16::MAX;
+    let mut k = from;
+    while k < to {
+        least = lesser(least, distance(part_from(image, m, k), start));
+        k += 1;
+    }
+    least
+}
+
+// The least distance, and the first block of the eight that have it.
+pub struct Near {
+    pub least: u16,
+    pub at: usize,
+}
+
+// The least distance of the used blocks, which are taken by eights. None is below 0, so the pass ends there.
+pub fn nearest(image: &[u8], m: Measures, used: usize, start: u16) -> Near
+    requires { ⌜ Over (now image) (m .size) ⌝ }
+    requires { ⌜ used ≤ capacity (m .size) ⌝ }
+    ensures { λ r. ⌜ Clear (now (image .entry)) start (r .least) 1 (used + 1) ⌝ }
+    ensures { λ r. ⌜ (1 ≤ r .at) × (r .at ≤ used + 1) ⌝ }
+{
+    let mut least = u16::MAX;
+    let mut at: usize = 1;
+    let mut k: usize = 1;
+    while k + 7 <= used {
+        let here = least_in(image, m, k, k + 8, start);
+        if here == 0 {
+            return Near { least: 0, at: k };
+        }
+        if here < least {
+            least = here;
+            at = k;
+        }
+        k += 8;
+    }
+    let here = least_in(image, m, k, used + 1, start);
+    if here < least {
+        return Near { least: here, at: k };
+    }
+    Near {
+        least: least,
+        at: at,
+    }
+}
+
+// Whether one of the used blocks among the eight from `from` on has the number and a right checksum.
+pub fn seen_in_eight(image: &[u8], m: Measures, used: usize, from: usize, number: usize) -> bool
+    requires { ⌜ Over (now image) (m .size) ⌝ }
+    requires { ⌜ used ≤ capacity (m .size) ⌝ }
+    requires { ⌜ (1 ≤ from) × (from ≤ used + 1) ⌝ }
+    ensures { λ r. ⌜ (r ≡ true → Seen (now (image .entry)) (used + 1) number) ⌝ }
+{
+    let to = from + 8;
+    let mut k = from;
+    while k < to {
+        if used < k {
+            return false;
+        }
+        if holds_number(part_from(image, m, k), number) {
+            return true;
+        }
+        k += 1;
+    }
+    false
+}
