@@ -6,7 +6,7 @@ use std::num::wrapping_sub_u16;
 use words::word;
 ghost use mathlib.Core.Path.{_≡_};
 ghost use mathlib.Core.Bool.{true};
-ghost use Prim.Native.Nat.{_+_, _%_, _^_, _<_, _≤_};
+ghost use Prim.Native.Nat.{_+_, _%_, _^_, _≤_};
 ghost use lib.ListN.{length, take};
 ghost use Rattle.flash_model.specs.Measures.{capacity};
 ghost use Rattle.flash_model.specs.UserBlock.{number};
@@ -27,7 +27,7 @@ fn lesser(a: u16, b: u16) -> u16
     if a < b { a } else { b }
 }
 
-// The least distance of the blocks from `from` up to `to`. For eight blocks the compiler makes it one expression.
+// The least distance of the blocks from `from` up to `to`.
 fn least_in(image: &[u8], m: Measures, from: usize, to: usize, start: u16) -> u16
     requires { ⌜ Over (now image) (m .size) ⌝ }
     requires { ⌜ to ≤ capacity (m .size) + 1 ⌝ }
@@ -40,6 +40,33 @@ fn least_in(image: &[u8], m: Measures, from: usize, to: usize, start: u16) -> u1
         k += 1;
     }
     least
+}
+
+// The least distance of the four blocks from k on. They are compared two by two: along a row of four or more the compiler makes
+// branches, which often go the way that the processor did not expect.
+fn least_of_four(image: &[u8], m: Measures, k: usize, start: u16) -> u16
+    requires { ⌜ Over (now image) (m .size) ⌝ }
+    requires { ⌜ k + 3 ≤ capacity (m .size) ⌝ }
+    ensures { λ r. ⌜ Clear (now (image .entry)) start r k (k + 4) ⌝ }
+{
+    let middle = k + 2;
+    let to = k + 4;
+    lesser(
+        least_in(image, m, k, middle, start),
+        least_in(image, m, middle, to, start),
+    )
+}
+
+// The least distance of the eight blocks from k on.
+pub fn least_of_eight(image: &[u8], m: Measures, k: usize, start: u16) -> u16
+    requires { ⌜ Over (now image) (m .size) ⌝ }
+    requires { ⌜ k + 7 ≤ capacity (m .size) ⌝ }
+    ensures { λ r. ⌜ Clear (now (image .entry)) start r k (k + 8) ⌝ }
+{
+    lesser(
+        least_of_four(image, m, k, start),
+        least_of_four(image, m, k + 4, start),
+    )
 }
 
 // The least distance, and the first block of the eight that have it.
@@ -59,7 +86,7 @@ pub fn nearest(image: &[u8], m: Measures, used: usize, start: u16) -> Near
     let mut at: usize = 1;
     let mut k: usize = 1;
     while k + 7 <= used {
-        let here = least_in(image, m, k, k + 8, start);
+        let here = least_of_eight(image, m, k, start);
         if here == 0 {
             return Near { least: 0, at: k };
         }

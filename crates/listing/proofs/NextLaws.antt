@@ -6,7 +6,7 @@ use mathlib.Core.List.{List}
 use mathlib.Core.Option.{Option, none, some, Option·map}
 use mathlib.Core.Logic.{_≢_, _⊎_, inl, inr}
 use native.Mathlib.Omega.{arith}
-use native.Mathlib.Decide.{ℕ-discrete}
+use native.Mathlib.Decide.{ℕ-discrete, decLe}
 use lib.Dec.{eqb, ltb, leb}
 use borrow.Author.Tests.{ne-eqb, eq-eqb, ltb-true, ltb-false, leb-true, leb-false, lt-ltb, le-ltb, lt-leb, le-leb}
 use Rattle.words.specs.Search.{highest}
@@ -21,6 +21,7 @@ use Rattle.flash_model.proofs.MeaningLaws.{next-live, live-none}
 use Rattle.partition.specs.Usable.{Usable}
 use Rattle.distances.specs.Numbers.{Clear, Seen}
 use Rattle.listing.specs.Listing.{lowered, asNext}
+use Rattle.listing.specs.Best.{Best}
 use Rattle.partition.proofs.UsableLaws.{usable-measured, holder-some}
 
 -- ---- one block
@@ -46,13 +47,6 @@ module _ (start best n : ℕ) (block : List ℕ) (e : number block ≡ n) where
 
 -- ---- all blocks passed so far
 
--- the best so far, where the blocks below k are passed: the lowest of their numbers from the start on, or the end
-pub record Best (image : List ℕ) (start end k best : ℕ) : Type 0 where
-  pub bound : best ≤ end
-  pub not-below : best < end → start ≤ best
-  pub is-seen : best < end → Seen image k best
-  pub none-lower : (n j : ℕ) → start ≤ n → n < best → 1 ≤ j → j < k → matches n (blockAt image j) ≡ false
-
 pub best-first : (image : List ℕ) (start end : ℕ) → Best image start end 1 end
 best-first image start end = record {
   bound = omega arith;
@@ -65,15 +59,15 @@ module _ (image : List ℕ) (start end k best : ℕ) (b : Best image start end k
   abbrev block : List ℕ
   block = blockAt image k
 
-  seen-more : (n : ℕ) → Seen image k n → Seen image (k + 1) n
-  seen-more n s = record { at = s .at; low = s .low; below = omega (arith, s .below); here = s .here }
+  seen-more : (to n : ℕ) → k ≤ to → Seen image k n → Seen image to n
+  seen-more to n h s = record { at = s .at; low = s .low; below = omega (arith, s .below, h); here = s .here }
 
   -- the block doesn't lower it
   kept : ((n : ℕ) → start ≤ n → n < best → matches n (blockAt image k) ≡ false) → Best image start end (k + 1) best
   kept h = record {
     bound = b .bound;
     not-below = b .not-below;
-    is-seen = λ l. seen-more best (b .is-seen l);
+    is-seen = λ l. seen-more (k + 1) best (omega arith) (b .is-seen l);
     none-lower = λ n j a c d e. go n j a c d e (ℕ-discrete j k);
   }
     where
@@ -110,16 +104,17 @@ module _ (image : List ℕ) (start end k best : ℕ) (b : Best image start end k
 
 -- ---- the nearest number, and no checksum but its own
 
-module _ (image : List ℕ) (start end k least : ℕ) (c : Clear image start least 1 k) where
-  nearer-none : (n j : ℕ) → start ≤ n → n < start + least → 1 ≤ j → j < k → matches n (blockAt image j) ≡ false
-  nearer-none n j a b lo hi = rw (ne-eqb (number (blockAt image j)) n (λ z. omega (arith, z, b, c .not-nearer j lo hi (omega (arith, z, a)))))
+nearer-none : (image : List ℕ) (start from to least : ℕ) (c : Clear image start least from to) (n j : ℕ)
+    → start ≤ n → n < start + least → from ≤ j → j < to → matches n (blockAt image j) ≡ false
+nearer-none image start from to least c n j a b lo hi = rw (ne-eqb (number (blockAt image j)) n (λ z. omega (arith, z, b, c .not-nearer j lo hi (omega (arith, z, a)))))
 
+module _ (image : List ℕ) (start end k least : ℕ) (c : Clear image start least 1 k) where
   pub best-near : start + least < end → Seen image k (start + least) → Best image start end k (start + least)
   best-near h s = record {
     bound = omega arith;
     not-below = λ _. omega arith;
     is-seen = λ _. s;
-    none-lower = λ n j a b lo hi. nearer-none n j a b lo hi;
+    none-lower = λ n j a b lo hi. nearer-none image start 1 k least c n j a b lo hi;
   }
 
   -- the nearest number is past the top
@@ -128,8 +123,22 @@ module _ (image : List ℕ) (start end k least : ℕ) (c : Clear image start lea
     bound = omega arith;
     not-below = λ l. absurd (omega arith);
     is-seen = λ l. absurd (omega arith);
-    none-lower = λ n j a b lo hi. nearer-none n j a (omega arith) lo hi;
+    none-lower = λ n j a b lo hi. nearer-none image start 1 k least c n j a (omega arith) lo hi;
   }
+
+-- blocks from k on, none of which has a number that is lower than the best
+pub best-passed : (image : List ℕ) (start end k best : ℕ) (b : Best image start end k best) (to least : ℕ) → Clear image start least k to → best ≤ start + least → k ≤ to
+    → Best image start end to best
+best-passed image start end k best b to least c h f = record {
+  bound = b .bound;
+  not-below = b .not-below;
+  is-seen = λ l. seen-more image start end k best b to best f (b .is-seen l);
+  none-lower = λ n j s l lo hi. go n j s l lo hi (decLe k j);
+}
+  where
+    go : (n j : ℕ) → start ≤ n → n < best → 1 ≤ j → j < to → Dec (k ≤ j) → matches n (blockAt image j) ≡ false
+    go n j s l lo hi (yes y) = nearer-none image start k to least c n j s (omega (arith, l, h)) y hi
+    go n j s l lo hi (no y) = b .none-lower n j s l lo (omega arith)
 
 -- ---- what the blocks passed say of contents
 
@@ -157,16 +166,6 @@ module _ (image : List ℕ) (size count : ℕ) (u : Usable image size count) (en
   -- the start is past the top
   pub next-past : (start : ℕ) → end ≤ start → asNext none ≡ asNext (lowestLive image start)
   next-past start h = ap asNext (sym (live-none image start (λ n a c. absurd (omega (arith, a, c, h, e, ap capacity (u .has-size))))))
-
-  -- the start itself is found
-  pub next-start : (start k best : ℕ) → start < end → k ≤ count + 1 → best ≡ start → Best image start end k best
-      → asNext (some start) ≡ asNext (lowestLive image start)
-  next-start start k best h f q b =
-      ap asNext (sym (next-live image start start (u .is-sound) .1 (record {
-        not-below = omega arith;
-        is-live = has-contents k start f h (rw q at (b .is-seen (omega (arith, q, h))));
-        none-between = λ n a c. absurd (omega (arith, a, c));
-      })))
 
   -- all used blocks are passed
   module _ (start k best : ℕ) (f : k ≡ count + 1) (b : Best image start end k best) where

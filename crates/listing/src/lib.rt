@@ -1,6 +1,10 @@
 // One pass over the used blocks for whatever looks at all numbers.
+mod lowering;
+
 use distances::nearest;
 use distances::seen_in_eight;
+use lowering::lower_eight;
+use lowering::lower_in;
 use measures::Measures;
 use partition::blocks::part_from;
 use partition::blocks::right_checksum;
@@ -13,7 +17,7 @@ ghost use lib.ListN.{length, take, drop};
 ghost use Rattle.flash_model.specs.Measures.{capacity};
 ghost use Rattle.flash_model.specs.Partition.{live, lowestLive};
 ghost use Rattle.partition.specs.Usable.{Usable};
-ghost use Rattle.listing.specs.Listing.{places, Blank, enters, placed, lowered, asNext};
+ghost use Rattle.listing.specs.Listing.{places, Blank, enters, placed, asNext};
 
 // A logical number, or none.
 pub enum Next {
@@ -61,25 +65,7 @@ pub fn list_places(image: &[u8], m: Measures, used: usize, area: &mut [u16]) -> 
     count
 }
 
-// The lower of `best` and the number of the block that begins this part, if that is not below the start and the checksum is
-// right, which is worked only where the number would be the new best. One test decides that: numbers stand in any order, and of
-// two tests one would often go the way that the processor did not expect.
-fn lower(part: &[u8], start: usize, best: usize) -> usize
-    requires { ⌜ 64 ≤ length (now part) ⌝ }
-    ensures { λ r. ⌜ r ≡ lowered start (take 64 (now (part .entry))) best ⌝ }
-{
-    let number = word(part, 0);
-    if (number < start) | (best <= number) {
-        return best;
-    }
-    if right_checksum(part) {
-        return number;
-    }
-    best
-}
-
-// The lowest live number not below the start, whatever checksums are wrong. None is lower than the start itself, so the pass ends
-// where that is found.
+// The lowest live number not below the start, whatever checksums are wrong.
 fn lowest_right(image: &[u8], m: Measures, used: usize, start: usize) -> Next
     requires { ⌜ Usable (now image) (m .size) used ⌝ }
     requires { ⌜ start < capacity (m .size) ⌝ }
@@ -88,13 +74,11 @@ fn lowest_right(image: &[u8], m: Measures, used: usize, start: usize) -> Next
     let end = m.capacity();
     let mut best = end;
     let mut k: usize = 1;
-    while k <= used {
-        best = lower(part_from(image, m, k), start, best);
-        if best == start {
-            return Next::Number(start);
-        }
-        k += 1;
+    while k + 7 <= used {
+        best = lower_eight(image, m, k, start, best);
+        k += 8;
     }
+    best = lower_in(image, m, k, used + 1, start, best);
     if best < end {
         Next::Number(best)
     } else {

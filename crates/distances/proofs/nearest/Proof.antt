@@ -22,13 +22,8 @@ add-loop c =
     let a = c .before .before in
     omega (arith, over-measured (a .args .image .now) (a .args .m .size) (a .pre .0) .two-bytes)
 
-add-least-in : tie.Need-add-least-in Inv-loop μ-loop
-add-least-in c =
-    let a = c .before .before .before in
-    omega (arith, over-measured (a .args .image .now) (a .args .m .size) (a .pre .0) .two-bytes)
-
-least-in-requires : tie.Need-least-in-requires Inv-loop μ-loop
-least-in-requires c κs = (c .before .before .before .pre .0, omega arith)
+least-of-eight-requires : tie.Need-least-of-eight-requires Inv-loop μ-loop
+least-of-eight-requires c κs = (c .before .before .before .pre .0, omega arith)
 
 returns : tie.Need-returns Inv-loop μ-loop
 returns c = (clear-at-start _ _ _ _, (omega arith, omega arith))
@@ -46,25 +41,25 @@ loop-again c =
     let g = c .before .before in
     let l = g .before .before in
     let most : c .if2 .least ≤ l .loop .least = ⊎-elim (λ w. omega arith) (λ w. omega arith) (c .if2 .came) in
-    let most-here : c .if2 .least ≤ g .least-in .result = ⊎-elim (λ w. omega arith) (λ w. omega arith) (c .if2 .came) in (
-      clear-joined _ _ (l .loop .least) _ (l .loop .k) (l .loop .inv .0) (g .least-in .result) _ (c .if2 .least) (g .least-in .ensures) most most-here,
+    let most-here : c .if2 .least ≤ g .least-of-eight .result = ⊎-elim (λ w. omega arith) (λ w. omega arith) (c .if2 .came) in (
+      clear-joined _ _ (l .loop .least) _ (l .loop .k) (l .loop .inv .0) (g .least-of-eight .result) _ (c .if2 .least) (g .least-of-eight .ensures) most most-here,
       ⊎-elim (λ w. (omega arith, omega arith)) (λ w. (omega arith, omega arith)) (c .if2 .came),
       (omega arith, omega arith),
     )
 
-add-least-in-2 : tie.Need-add-least-in-2 Inv-loop μ-loop
-add-least-in-2 c =
+add-least-in : tie.Need-add-least-in Inv-loop μ-loop
+add-least-in c =
     let a = c .before .before .before in
     omega (arith, over-measured (a .args .image .now) (a .args .m .size) (a .pre .0) .two-bytes)
 
-least-in-requires-2 : tie.Need-least-in-requires-2 Inv-loop μ-loop
-least-in-requires-2 c κs = (c .before .before .before .pre .0, omega arith)
+least-in-requires : tie.Need-least-in-requires Inv-loop μ-loop
+least-in-requires c κs = (c .before .before .before .pre .0, omega arith)
 
 returns-2 : tie.Need-returns-2 Inv-loop μ-loop
 returns-2 c =
     let g = c .before in
     let l = g .before .before in (
-      clear-joined _ _ (l .loop .least) _ (l .loop .k) (l .loop .inv .0) (g .least-in2 .result) _ (g .least-in2 .result) (g .least-in2 .ensures) (omega arith) (omega arith),
+      clear-joined _ _ (l .loop .least) _ (l .loop .k) (l .loop .inv .0) (g .least-in .result) _ (g .least-in .result) (g .least-in .ensures) (omega arith) (omega arith),
       l .loop .inv .2,
     )
 
@@ -72,7 +67,7 @@ returns-3 : tie.Need-returns-3 Inv-loop μ-loop
 returns-3 c =
     let g = c .before in
     let l = g .before .before in (
-      clear-joined _ _ (l .loop .least) _ (l .loop .k) (l .loop .inv .0) (g .least-in2 .result) _ (l .loop .least) (g .least-in2 .ensures) (omega arith) (omega arith),
+      clear-joined _ _ (l .loop .least) _ (l .loop .k) (l .loop .inv .0) (g .least-in .result) _ (l .loop .least) (g .least-in .ensures) (omega arith) (omega arith),
       l .loop .inv .1,
     )
 
@@ -84,13 +79,12 @@ nearest-spec =
     μ-loop
     loop-holds
     add-loop
-    add-least-in
-    least-in-requires
+    least-of-eight-requires
     returns
     add-k
     loop-less
     loop-again
-    add-least-in-2
-    least-in-requires-2
+    add-least-in
+    least-in-requires
     returns-2
     returns-3)

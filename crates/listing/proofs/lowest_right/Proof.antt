@@ -2,7 +2,8 @@
 use Prim.Native.Nat.{_+_, _-_, _≤_}
 use native.Mathlib.Omega.{arith}
 use Rattle.partition.proofs.UsableLaws.{usable-legal, usable-over, usable-measured, count-most}
-use Rattle.listing.proofs.NextLaws.{Best, best-first, best-next, next-start, next-is, next-none}
+use Rattle.listing.specs.Best.{Best}
+use Rattle.listing.proofs.NextLaws.{best-first, next-is, next-none}
 use Rattle.listing.proofs.lowest_right.Statement.{statement}
 use Rattle.listing.proofs.lowest_right.Tie as tie
 
@@ -22,58 +23,65 @@ loop-holds c =
     let a = c .before .before in
     (omega arith, omega arith, best-first (a .args .image .now) (a .args .start) (c .capacity .result))
 
-part-from-requires : tie.Need-part-from-requires Inv-loop μ-loop
-part-from-requires c κs =
-    let a = c .before .before .before .before in
+add-loop : tie.Need-add-loop Inv-loop μ-loop
+add-loop c =
+    let a = c .before .before .before in
     let i = a .args .image .now in
-    (usable-over i (a .args .m .size) (a .args .used) (a .pre .0), omega (arith, c .loop-test .taken, count-most i (a .args .m .size) (a .args .used) (a .pre .0)))
+    omega (arith, count-most i (a .args .m .size) (a .args .used) (a .pre .0), usable-measured i (a .args .m .size) (a .args .used) (a .pre .0) .two-bytes)
 
-lower-requires : tie.Need-lower-requires Inv-loop μ-loop
-lower-requires c κs = c .part-from .ensures .1
-
-returns : tie.Need-returns Inv-loop μ-loop
-returns c =
-    let l = c .before .before .before .before in
-    let n = l .before in
-    let a = n .before .before in
-    let b = best-next (a .args .image .now) (a .args .start) (n .capacity .result) (l .loop .k) (l .loop .best) (l .loop .inv .2) (l .loop .inv .0) _ (c .before .before .part-from .ensures .0) (c .before .lower .result) (c .before .lower .ensures) in
-    next-start (a .args .image .now) (a .args .m .size) (a .args .used) (a .pre .0) (n .capacity .result) (n .capacity .ensures) (a .args .start) (l .loop .k + 1) (c .before .lower .result)
-    (omega (arith, a .pre .1, n .capacity .ensures)) (omega (arith, c .before .before .before .loop-test .taken)) (c .if1 .taken) b
+lower-eight-requires : tie.Need-lower-eight-requires Inv-loop μ-loop
+lower-eight-requires c κs =
+    let a = c .before .before .before .before in
+    let i = a .args .image .now in (
+      usable-over i (a .args .m .size) (a .args .used) (a .pre .0),
+      (omega arith, omega (arith, count-most i (a .args .m .size) (a .args .used) (a .pre .0)), a .pre .1),
+    )
 
 add-k : tie.Need-add-k Inv-loop μ-loop
 add-k c =
-    let a = c .before .before .before .before .before .before .before in
+    let a = c .before .before .before .before .before in
     let i = a .args .image .now in
-    omega (arith, c .before .before .before .loop-test .taken, count-most i (a .args .m .size) (a .args .used) (a .pre .0), usable-measured i (a .args .m .size) (a .args .used) (a .pre .0) .two-bytes)
+    omega (arith, count-most i (a .args .m .size) (a .args .used) (a .pre .0), usable-measured i (a .args .m .size) (a .args .used) (a .pre .0) .two-bytes)
 
 loop-less : tie.Need-loop-less Inv-loop μ-loop
-loop-less c = omega (arith, c .before .before .before .loop-test .taken)
+loop-less c = omega arith
 
 loop-again : tie.Need-loop-again Inv-loop μ-loop
 loop-again c =
-    let l = c .before .before .before .before in
-    let n = l .before in
-    let a = n .before .before in (
-      omega arith,
-      omega (arith, c .before .before .before .loop-test .taken),
-      best-next (a .args .image .now) (a .args .start) (n .capacity .result) (l .loop .k) (l .loop .best) (l .loop .inv .2) (l .loop .inv .0) _ (c .before .before .part-from .ensures .0) (c .before .lower .result) (c .before .lower .ensures),
+    let l = c .before .before in
+    (omega arith, omega arith, c .lower-eight .ensures (l .before .capacity .result) (l .loop .inv .2))
+
+add-lower-in : tie.Need-add-lower-in Inv-loop μ-loop
+add-lower-in c =
+    let a = c .before .before .before .before in
+    let i = a .args .image .now in
+    omega (arith, count-most i (a .args .m .size) (a .args .used) (a .pre .0), usable-measured i (a .args .m .size) (a .args .used) (a .pre .0) .two-bytes)
+
+lower-in-requires : tie.Need-lower-in-requires Inv-loop μ-loop
+lower-in-requires c κs =
+    let a = c .before .before .before .before in
+    let i = a .args .image .now in (
+      usable-over i (a .args .m .size) (a .args .used) (a .pre .0),
+      (omega arith, omega arith, omega (arith, count-most i (a .args .m .size) (a .args .used) (a .pre .0))),
     )
+
+returns : tie.Need-returns Inv-loop μ-loop
+returns c =
+    let e = c .before in
+    let l = e .before .before in
+    let n = l .before in
+    let a = n .before .before in
+    next-is (a .args .image .now) (a .args .m .size) (a .args .used) (a .pre .0) (n .capacity .result) (n .capacity .ensures) (a .args .start) (a .args .used + 1) (e .lower-in .result)
+    (omega arith) (e .lower-in .ensures (n .capacity .result) (l .loop .inv .2)) (c .if1 .taken)
 
 returns-2 : tie.Need-returns-2 Inv-loop μ-loop
 returns-2 c =
-    let l = c .before .before in
+    let e = c .before in
+    let l = e .before .before in
     let n = l .before in
     let a = n .before .before in
-    next-is (a .args .image .now) (a .args .m .size) (a .args .used) (a .pre .0) (n .capacity .result) (n .capacity .ensures) (a .args .start) (l .loop .k) (l .loop .best)
-    (omega (arith, l .loop .inv .1, c .before .loop-test .left)) (l .loop .inv .2) (c .if2 .taken)
-
-returns-3 : tie.Need-returns-3 Inv-loop μ-loop
-returns-3 c =
-    let l = c .before .before in
-    let n = l .before in
-    let a = n .before .before in
-    next-none (a .args .image .now) (a .args .m .size) (a .args .used) (a .pre .0) (n .capacity .result) (n .capacity .ensures) (a .args .start) (l .loop .k) (l .loop .best)
-    (omega (arith, l .loop .inv .1, c .before .loop-test .left)) (l .loop .inv .2) (c .if2 .left)
+    next-none (a .args .image .now) (a .args .m .size) (a .args .used) (a .pre .0) (n .capacity .result) (n .capacity .ensures) (a .args .start) (a .args .used + 1) (e .lower-in .result)
+    (omega arith) (e .lower-in .ensures (n .capacity .result) (l .loop .inv .2)) (c .if1 .left)
 
 pub lowest-right-spec : {M : Type 1} → statement M
 lowest-right-spec =
@@ -83,11 +91,12 @@ lowest-right-spec =
     μ-loop
     capacity-requires
     loop-holds
-    part-from-requires
-    lower-requires
-    returns
+    add-loop
+    lower-eight-requires
     add-k
     loop-less
     loop-again
-    returns-2
-    returns-3)
+    add-lower-in
+    lower-in-requires
+    returns
+    returns-2)
