@@ -33,13 +33,16 @@ entryBy image k n = entryOf (highest (λ j. matches n (blockAt image j)) k)
 abbrev pub completed : List ℕ → ℕ → List ℕ → ℕ → ℕ
 completed image k area n = cond (eqb (getD area n 0) 0) (entryBy image k n) (getD area n 0)
 
--- blocks above k are entered, of so many used ones: entries and what is still to come are the places
+-- blocks above k are entered, of so many used ones, where the area had no entry at first: the entries and what is still to come
+-- are the places
 pub record Filling (image : List ℕ) (end used : ℕ) (first : List ℕ) (k count : ℕ) (area : List ℕ) : Type 0 where
   pub same-length : length area ≡ length first
   pub behind : drop end area ≡ drop end first
-  pub counted : count ≡ nonzero (take end area)
+  pub counted : count + nonzero (take end first) ≡ nonzero (take end area)
   pub room : count + k ≤ used
-  pub entries : (n : ℕ) → n < end → completed image k area n ≡ entryBy image used n
+  pub still-free : (n : ℕ) → getD area n 0 ≡ 0 → getD first n 0 ≡ 0
+  pub entries : (n : ℕ) → n < end → getD first n 0 ≡ 0 → completed image k area n ≡ entryBy image used n
+  pub above : (n : ℕ) → getD first n 0 ≡ 0 → (getD area n 0 ≡ 0 → ⊥) → k < getD area n 0
 
 -- ---- a block, entered or not
 
@@ -71,13 +74,15 @@ blank-take (suc e) [] b n = refl
 blank-take (suc e) (x ∷ l) b zero = b 0
 blank-take (suc e) (x ∷ l) b (suc n) = blank-take e l (λ m. b (suc m)) n
 
-pub filling-first : (image : List ℕ) (end used : ℕ) (first : List ℕ) → Blank first → Filling image end used first used 0 first
-filling-first image end used first b = record {
+pub filling-first : (image : List ℕ) (end used : ℕ) (first : List ℕ) → Filling image end used first used 0 first
+filling-first image end used first = record {
   same-length = refl;
   behind = refl;
-  counted = sym (blank-none (take end first) (blank-take end first b));
+  counted = omega arith;
   room = omega arith;
-  entries = λ n h. rw (b n);
+  still-free = λ n z. z;
+  entries = λ n h z. rw z;
+  above = λ n z d. absurd (d z);
 }
 
 -- ---- one block more
@@ -97,11 +102,11 @@ nonzero-set (x ∷ l) (suc i) v h e d = go (nonzero-set l i v (omega arith) e d)
 
 module _ (image : List ℕ) (end used : ℕ) (first : List ℕ) (k count : ℕ) (area : List ℕ) (long : end ≤ length first) (low : 1 ≤ k)
     (f : Filling image end used first k count area) where
-  entry-here : (n : ℕ) → matches n (blockAt image k) ≡ true → entryBy image k n ≡ k
+  pub entry-here : (n : ℕ) → matches n (blockAt image k) ≡ true → entryBy image k n ≡ k
   unfolding entryBy
   entry-here n m = ap entryOf (highest-here (λ j. matches n (blockAt image j)) k low m)
 
-  entry-next : (n : ℕ) → matches n (blockAt image k) ≡ false → entryBy image k n ≡ entryBy image (k - 1) n
+  pub entry-next : (n : ℕ) → matches n (blockAt image k) ≡ false → entryBy image k n ≡ entryBy image (k - 1) n
   unfolding entryBy
   entry-next n m = ap entryOf (highest-next (λ j. matches n (blockAt image j)) k low m)
 
@@ -112,7 +117,9 @@ module _ (image : List ℕ) (end used : ℕ) (first : List ℕ) (k count : ℕ) 
     behind = f .behind;
     counted = omega (arith, f .counted);
     room = omega (arith, f .room);
-    entries = λ n h. go n h (eqb (getD area n 0) 0) refl ∙ f .entries n h;
+    still-free = f .still-free;
+    entries = λ n h z. go n h (eqb (getD area n 0) 0) refl ∙ f .entries n h z;
+    above = λ n z d. omega (arith, f .above n z d);
   }
     where
       go : (n : ℕ) → n < end → (t : Bool) → eqb (getD area n 0) 0 ≡ t
@@ -132,20 +139,38 @@ module _ (image : List ℕ) (end used : ℕ) (first : List ℕ) (k count : ℕ) 
         behind = drop-set-lt end area b k h ∙ f .behind;
         counted = omega (arith, f .counted, ap nonzero (take-set-lt end area b k h), nonzero-set (take end area) b k within (getD-take end area b 0 h ∙ free) (λ z. omega (arith, z)));
         room = omega (arith, f .room);
-        entries = λ n l. go n (ℕ-discrete n b) inside ∙ f .entries n l;
+        still-free = λ n z. free-before n (ℕ-discrete n b) inside z;
+        entries = λ n l z. go n (ℕ-discrete n b) inside ∙ f .entries n l z;
+        above = λ n z d. higher n (ℕ-discrete n b) inside z d;
       }
     where
+      area′ : List ℕ
+      area′ = set area (number (blockAt image k)) k
+
+      new : (n : ℕ) → n ≡ number (blockAt image k) → number (blockAt image k) < length area → getD area′ n 0 ≡ k
+      new n e inside = rw e (getD-set-same area (number (blockAt image k)) k 0 inside)
+
+      other : (n : ℕ) → (n ≡ number (blockAt image k) → ⊥) → getD area′ n 0 ≡ getD area n 0
+      other n d = getD-set-other area (number (blockAt image k)) n k 0 d
+
+      free-before : (n : ℕ) → Dec (n ≡ number (blockAt image k)) → number (blockAt image k) < length area → getD area′ n 0 ≡ 0 → getD first n 0 ≡ 0
+      free-before n (yes e) inside z = absurd (omega (arith, z, new n e inside))
+      free-before n (no d) inside z = f .still-free n (sym (other n d) ∙ z)
+
+      higher : (n : ℕ) → Dec (n ≡ number (blockAt image k)) → number (blockAt image k) < length area
+          → getD first n 0 ≡ 0 → (getD area′ n 0 ≡ 0 → ⊥) → k - 1 < getD area′ n 0
+      higher n (yes e) inside z d = omega (arith, new n e inside)
+      higher n (no o) inside z d = omega (arith, other n o, f .above n z (λ y. d (other n o ∙ y)))
+
       go : (n : ℕ) → Dec (n ≡ number (blockAt image k)) → number (blockAt image k) < length area
-          → completed image (k - 1) (set area (number (blockAt image k)) k) n ≡ completed image k area n
+          → completed image (k - 1) area′ n ≡ completed image k area n
       go n (yes e) inside =
           let here : matches n (blockAt image k) ≡ true = rw (eq-eqb (number (blockAt image k)) n (sym e), right) in
-          let new : getD (set area (number (blockAt image k)) k) n 0 ≡ k = rw e (getD-set-same area (number (blockAt image k)) k 0 inside) in
           let old : getD area n 0 ≡ 0 = rw e free in
-          rw (new, old, ne-eqb k 0 (λ z. omega (arith, z))) (sym (entry-here n here))
+          rw (new n e inside, old, ne-eqb k 0 (λ z. omega (arith, z))) (sym (entry-here n here))
       go n (no d) inside =
-          let other : getD (set area (number (blockAt image k)) k) n 0 ≡ getD area n 0 = getD-set-other area (number (blockAt image k)) n k 0 d in
           let none-here : matches n (blockAt image k) ≡ false = rw (ne-eqb (number (blockAt image k)) n (λ e. d (sym e))) in
-          rw (other, entry-next n none-here)
+          rw (other n d, entry-next n none-here)
 
   pub filling-next : (part area′ : List ℕ) (r : ℕ) → part ≡ blockAt image k → r ≡ cond (enters end part area) 1 0 → area′ ≡ placed end k part area
       → Filling image end used first (k - 1) (count + r) area′
@@ -193,13 +218,13 @@ live-entries image = go (logicalNumbers (length image))
         both ih false = ih
 
 module _ (image : List ℕ) (size used : ℕ) (u : Usable image size used) (end : ℕ) (e : end ≡ capacity size) (first : List ℕ) (long : end ≤ length first)
-    (k count : ℕ) (area : List ℕ) (done : k ≤ 0) (f : Filling image end used first k count area) where
+    (blank : Blank first) (k count : ℕ) (area : List ℕ) (done : k ≤ 0) (f : Filling image end used first k count area) where
   entry-is : (n : ℕ) → n < end → getD area n 0 ≡ entryOf (holder image n)
   unfolding entryBy
   entry-is n h =
       let z : k ≡ 0 = omega arith in
       let legal = legal-below size n (usable-measured image size used u) ∙ lt-ltb n (capacity size) (omega arith) in
-      go z (eqb (getD area n 0) 0) refl ∙ f .entries n h ∙ ap entryOf (sym (holder-some image size used u n legal))
+      go z (eqb (getD area n 0) 0) refl ∙ f .entries n h (blank n) ∙ ap entryOf (sym (holder-some image size used u n legal))
     where
       go : k ≡ 0 → (t : Bool) → eqb (getD area n 0) 0 ≡ t → getD area n 0 ≡ cond t (entryBy image k n) (getD area n 0)
       go z true y = eqb-true (getD area n 0) 0 y ∙ rw z
@@ -218,4 +243,4 @@ module _ (image : List ℕ) (size used : ℕ) (u : Usable image size used) (end 
   places-filled = sym (take-append-drop end area) ∙ rw (front, f .behind, e)
 
   pub live-counted : count ≡ live image
-  live-counted = f .counted ∙ rw front (live-entries image)
+  live-counted = omega (arith, f .counted, blank-none (take end first) (blank-take end first blank), ap nonzero front, live-entries image)

@@ -7,10 +7,11 @@ use mathlib.Core.List.{List, map}
 use mathlib.Core.Option.{Option, none, some}
 use lib.Dec.{eqb, ltb, leb}
 use lib.ListN.{length, getD, set}
-use Rattle.words.specs.Lists.{keep}
+use Rattle.words.specs.Lists.{keep, numbersFrom}
 use Rattle.flash_model.specs.Measures.{logicalNumbers}
 use Rattle.flash_model.specs.UserBlock.{number, rightChecksum}
-use Rattle.flash_model.specs.Partition.{holder}
+use Rattle.flash_model.specs.Partition.{blockAt, holder}
+use Rattle.flash_model.specs.Update.{isHolder}
 use Rattle.listing.specs.declared.Next.{Next}
 use Rattle.listing.specs.declared.Next.the-variants.{Number, Nothing}
 
@@ -34,6 +35,14 @@ enters end block area = ltb (number block) end && (eqb (getD area (number block)
 -- The area with block k entered at its number.
 unfoldable pub placed : ℕ → ℕ → List ℕ → List ℕ → List ℕ
 placed end k block area = cond (enters end block area) (set area (number block) k) area
+
+-- Block k holds the contents of its number, and the area has no entry for that.
+unfoldable pub isKept : List ℕ → List ℕ → ℕ → Bool
+isKept area image k = isHolder image k && eqb (getD area (number (blockAt image k)) 0) 0
+
+-- Those of the used blocks, in rising order.
+unfoldable pub keptBlocks : List ℕ → List ℕ → ℕ → List ℕ
+keptBlocks area image used = keep (isKept area image) (numbersFrom 1 used)
 
 -- How many entries are not 0.
 unfoldable pub nonzero : List ℕ → ℕ

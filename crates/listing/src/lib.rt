@@ -12,12 +12,12 @@ use words::word;
 ghost use mathlib.Core.Path.{_≡_};
 ghost use mathlib.Core.Bool.{cond};
 ghost use mathlib.Core.List.{_++_};
-ghost use Prim.Native.Nat.{_≤_, _<_};
+ghost use Prim.Native.Nat.{_-_, _≤_, _<_};
 ghost use lib.ListN.{length, take, drop};
 ghost use Rattle.flash_model.specs.Measures.{capacity};
 ghost use Rattle.flash_model.specs.Partition.{live, lowestLive};
 ghost use Rattle.partition.specs.Usable.{Usable};
-ghost use Rattle.listing.specs.Listing.{places, Blank, enters, placed, asNext};
+ghost use Rattle.listing.specs.Listing.{places, keptBlocks, Blank, enters, placed, asNext};
 
 // A logical number, or none.
 pub enum Next {
@@ -60,6 +60,33 @@ pub fn list_places(image: &[u8], m: Measures, used: usize, area: &mut [u16]) -> 
     let mut k = used;
     while 0 < k {
         count += enter(part_from(image, m, k), k as u16, end, area);
+        k -= 1;
+    }
+    count
+}
+
+// Lists at the end of `kept`, rising, the physical block of the contents of each number that the area has no entry for, and
+// counts these. Every block is stored in front of the list, and the list begins with it where it is entered: the store needs no
+// test of its own.
+pub fn list_kept(
+    image: &[u8],
+    m: Measures,
+    used: usize,
+    area: &mut [u16],
+    kept: &mut [u16],
+) -> usize
+    requires { ⌜ Usable (now image) (m .size) used ⌝ }
+    requires { ⌜ (capacity (m .size) ≤ length (now area)) × (capacity (m .size) ≤ length (now kept)) ⌝ }
+    ensures { λ r. ⌜ r ≤ used ⌝ }
+    ensures { λ r. ⌜ drop (length (now (kept .entry)) - r) (now (kept .exit)) ≡ keptBlocks (now (area .entry)) (now (image .entry)) used ⌝ }
+{
+    let end = m.capacity();
+    let mut count: usize = 0;
+    let mut k = used;
+    while 0 < k {
+        let block = k as u16;
+        kept[kept.len() - count - 1] = block;
+        count += enter(part_from(image, m, k), block, end, area);
         k -= 1;
     }
     count

@@ -23,7 +23,7 @@ capacity-requires c κs =
 loop-holds : tie.Need-loop-holds Inv-loop μ-loop
 loop-holds c =
     let a = c .before .before .before in
-    (omega arith, filling-first (a .args .image .now) (c .capacity .result) (a .args .used) (a .args .area .now) (a .pre .1 .1))
+    (omega arith, filling-first (a .args .image .now) (c .capacity .result) (a .args .used) (a .args .area .now))
 
 part-from-requires : tie.Need-part-from-requires Inv-loop μ-loop
 part-from-requires c κs =
@@ -76,8 +76,8 @@ returns c =
     let s = a .args .m .size in
     let e = l .before .capacity .ensures in
     let long : l .before .capacity .result ≤ length (a .args .area .now) = omega (arith, a .pre .1 .0, e) in (
-      places-filled i s (a .args .used) (a .pre .0) (l .before .capacity .result) e (a .args .area .now) long _ _ _ (c .loop-test .left) (l .loop .inv .1),
-      live-counted i s (a .args .used) (a .pre .0) (l .before .capacity .result) e (a .args .area .now) long _ _ _ (c .loop-test .left) (l .loop .inv .1),
+      places-filled i s (a .args .used) (a .pre .0) (l .before .capacity .result) e (a .args .area .now) long (a .pre .1 .1) _ _ _ (c .loop-test .left) (l .loop .inv .1),
+      live-counted i s (a .args .used) (a .pre .0) (l .before .capacity .result) e (a .args .area .now) long (a .pre .1 .1) _ _ _ (c .loop-test .left) (l .loop .inv .1),
     )
 
 pub list-places-spec : {M : Type 1} → statement M
