@@ -1,32 +1,36 @@
 -- An erase and a compacting save, from what their steps leave. Assumes nothing.
 use Prim.Native.Nat.{ℕ, suc, _+_, _*_, _-_, _≤_, _<_}
 use mathlib.Core.Path.{_≡_, ap, _∙_}
+use mathlib.Core.Bool.{false}
 use mathlib.Core.List.{List, [], _∷_, _++_}
 use native.Mathlib.Omega.{arith}
-use lib.ListN.{length, take, set, replicate, length-append}
+use lib.Dec.{eqb}
+use lib.ListN.{length, take, set, replicate, length-append, length-map}
 use Rattle.words.specs.Lists.{concat}
 use Rattle.flash_model.specs.Measures.{capacity, topNumber}
 use Rattle.flash_model.specs.UserBlock.{newBlock}
+use Rattle.flash_model.specs.Partition.{blockAt}
 use Rattle.flash_model.specs.Update.{bitsCleared, withBlock, holders, otherHolders, compacted, erased}
 use Rattle.flash_model.proofs.BlockLaws.{new-length}
 use Rattle.flash_model.proofs.SoundLaws.{sound-measured}
 use Rattle.flash_model.proofs.RoomLaws.{holders-room, others-fit}
 use Rattle.partition.specs.Usable.{Usable}
-use Rattle.listing.specs.Listing.{places}
+use Rattle.listing.specs.Listing.{Blank, keptBlocks}
 use Rattle.partition.proofs.UsableLaws.{usable-measured}
 use Rattle.moving.specs.Moving.{AllMoved}
-use Rattle.compaction.proofs.KeptLaws.{named-holders, named-others}
+use Rattle.compaction.proofs.KeptLaws.{kept-holders, kept-others}
 use Rattle.compaction.proofs.RewriteLaws.{finished, front-more}
 
-module _ (image : List ℕ) (size count : ℕ) (u : Usable image size count) (area rest : List ℕ) (e : area ≡ places image ++ rest) (moved : List ℕ) (next : ℕ) where
+module _ (image : List ℕ) (size count : ℕ) (u : Usable image size count) (area : List ℕ) (blank : Blank area) (moved : List ℕ) (next : ℕ) where
   same-size : capacity (length image) ≡ capacity size
   same-size = ap capacity (u .has-size)
 
   -- ---- every holder kept
 
-  module _ (m : AllMoved area size count image moved next) where
+  module _ (m : AllMoved (keptBlocks area image count) image moved next) where
     erase-next : next ≡ suc (length (holders image))
-    erase-next = m .next-is ∙ ap (λ (l : List (List ℕ)). suc (length l)) (named-holders image size count u area rest e)
+    erase-next =
+        omega (arith, m .next-is, length-map (keptBlocks area image count) (blockAt image), ap (λ (l : List (List ℕ)). length l) (kept-holders image size count u area blank))
 
     pub erase-low : 1 ≤ next
     erase-low = omega (arith, erase-next)
@@ -38,13 +42,15 @@ module _ (image : List ℕ) (size count : ℕ) (u : Usable image size count) (ar
     unfolding erased
     erase-is =
         finished image (take (next * 64) moved) (holders image) size next (u .has-size)
-        (m .front-is ∙ ap (λ (l : List (List ℕ)). take 64 image ++ concat l) (named-holders image size count u area rest e)) erase-next
+        (m .front-is ∙ ap (λ (l : List (List ℕ)). take 64 image ++ concat l) (kept-holders image size count u area blank)) erase-next
 
   -- ---- every other number's holder kept, and a new block
 
-  module _ (n : ℕ) (page : List ℕ) (legal : n ≤ topNumber size) (l : length page ≡ 60) (h : n < length area) (m : AllMoved (set area n 0) size count image moved next) where
+  module _ (n : ℕ) (page : List ℕ) (legal : n ≤ topNumber size) (l : length page ≡ 60) (h : n < length area)
+      (v : ℕ) (m : AllMoved (keptBlocks (set area n v) image count) image moved next) (d : eqb v 0 ≡ false) where
     others-next : next ≡ suc (length (otherHolders image n))
-    others-next = m .next-is ∙ ap (λ (bs : List (List ℕ)). suc (length bs)) (named-others image size count u area rest e n h)
+    others-next =
+        omega (arith, m .next-is, length-map (keptBlocks (set area n v) image count) (blockAt image), ap (λ (bs : List (List ℕ)). length bs) (kept-others image size count u area blank n v h d))
 
     pub others-high : next ≤ capacity size
     others-high =
@@ -57,7 +63,7 @@ module _ (image : List ℕ) (size count : ℕ) (u : Usable image size count) (ar
         let whole = usable-measured image size count u .whole in
         let fits : next * 64 + 64 ≤ length moved = omega (arith, others-high, m .same-length, u .has-size, whole) in
         let front : take (next * 64) moved ≡ take 64 image ++ concat (otherHolders image n) =
-        m .front-is ∙ ap (λ (bs : List (List ℕ)). take 64 image ++ concat bs) (named-others image size count u area rest e n h) in
+        m .front-is ∙ ap (λ (bs : List (List ℕ)). take 64 image ++ concat bs) (kept-others image size count u area blank n v h d) in
         finished image (take ((next + 1) * 64) written) (otherHolders image n ++ newBlock n page ∷ []) size (next + 1) (u .has-size)
         (ap (take ((next + 1) * 64)) w ∙ front-more image moved (newBlock n page) (otherHolders image n) next fits (new-length n page l) front)
         (omega (arith, others-next, length-append (otherHolders image n) (newBlock n page ∷ [])))

@@ -1,29 +1,27 @@
--- The blocks that an area of places names are the holders. Assumes nothing.
-use Prim.Native.Nat.{ℕ, zero, suc, _+_, _≤_, _<_}
+-- The blocks that a pass lists are the holders. Assumes nothing.
+use Prim.Native.Nat.{ℕ, zero, suc, _+_, _*_, _-_, _≤_, _<_}
 use mathlib.Core.Path.{_≡_, refl, sym, ap, _∙_}
-use mathlib.Core.Bool.{Bool, true, false, not, cond, _&&_, and-false, and-true, true≢false}
-use mathlib.Core.List.{List, [], _∷_, _++_, map}
-use mathlib.Core.Option.{Option, none, some}
+use mathlib.Core.Bool.{Bool, true, false, not, cond, _&&_, true≢false}
+use mathlib.Core.List.{List, [], _∷_, map}
 use native.Mathlib.Omega.{arith}
 use native.Mathlib.Decide.{ℕ-discrete}
 use lib.Dec.{eqb}
-use lib.ListN.{length, getD, set, List·getD-append}
-use lib.Seq.{getD-set-same, getD-set-other}
-use borrow.Author.Tests.{eq-eqb, ne-eqb, lt-leb, ltb-true}
+use lib.ListN.{length, getD, set, take, drop, length-drop}
+use lib.Seq.{take-all, getD-set-same, getD-set-other}
+use borrow.Author.Tests.{eq-eqb, ne-eqb, lt-leb}
 use Rattle.words.specs.Lists.{keep, numbersFrom}
-use Rattle.words.proofs.ListLaws.{keep-map, range-at}
-use Rattle.flash_model.specs.Measures.{capacity, legalNumber, userBlocks, logicalNumbers}
+use Rattle.words.proofs.ListLaws.{keep-map}
+use Rattle.flash_model.specs.Measures.{capacity, userBlocks}
 use Rattle.flash_model.specs.UserBlock.{number}
-use Rattle.flash_model.specs.Partition.{blockAt, holder, used}
-use Rattle.flash_model.specs.Update.{isAt, isHolder, holders, otherHolders}
-use Rattle.flash_model.proofs.MeasureLaws.{Measured, legal-below}
+use Rattle.flash_model.specs.Partition.{blockAt, used}
+use Rattle.flash_model.specs.Update.{isHolder, holders, otherHolders}
 use Rattle.flash_model.proofs.SoundLaws.{allocated-used}
 use Rattle.flash_model.proofs.HolderLaws.{is-holder-at}
 use Rattle.partition.specs.Usable.{Usable}
-use Rattle.listing.specs.Listing.{entryOf, places}
-use Rattle.partition.proofs.UsableLaws.{usable-measured, count-most, holder-none}
-use Rattle.listing.proofs.PlaceLaws.{places-length}
-use Rattle.moving.specs.Moving.{namedIn, namedBlocks}
+use Rattle.partition.proofs.UsableLaws.{usable-measured, count-most}
+use Rattle.listing.specs.Listing.{Blank, isKept, keptBlocks}
+use Rattle.moving.specs.Moving.{RisingBlocks}
+use Rattle.moving.proofs.ConservedLaws.{rising-lower}
 
 -- ---- tests on a range
 
@@ -47,39 +45,30 @@ keep-keep p q (x ∷ l) = go (keep-keep p q l) (p x)
     go ih true = rw ih
     go ih false = ih
 
--- ---- entries of the area
+keep-all : (l : List ℕ) → keep (λ k. true) l ≡ l
+keep-all [] = refl
+keep-all (x ∷ l) = rw (keep-all l)
 
-at-entry : (o : Option ℕ) (k : ℕ) → 1 ≤ k → eqb (entryOf o) k ≡ isAt o k
-at-entry none k h = ne-eqb 0 k (λ e. omega (arith, e, h))
-at-entry (some j) k h = refl
+rising-keep : (p : ℕ → Bool) (k n bytes : ℕ) → (k + n) * 64 ≤ bytes → RisingBlocks k bytes (keep p (numbersFrom k n))
+rising-keep p k zero bytes h = tt
+rising-keep p k (suc n) bytes h = go (rising-keep p (suc k) n bytes (omega arith)) (p k)
+  where
+    go : RisingBlocks (suc k) bytes (keep p (numbersFrom (suc k) n)) → (t : Bool) → RisingBlocks k bytes (cond t (k ∷ keep p (numbersFrom (suc k) n)) (keep p (numbersFrom (suc k) n)))
+    go r true = (omega arith, (omega arith, r))
+    go r false = rising-lower (suc k) k bytes (keep p (numbersFrom (suc k) n)) (omega arith) r
+
+-- a list at the end of an area
+pub part-is : (room at : ℕ) (area list : List ℕ) → length area ≡ room → drop at area ≡ list → take (room - at) (drop at area) ≡ list
+part-is room at area list l e = take-all (room - at) (drop at area) (omega (arith, length-drop at area, l)) ∙ e
+
+-- ---- the holders
 
 module _ (image : List ℕ) (size count : ℕ) (u : Usable image size count) where
-  m : Measured size
-  m = usable-measured image size count u
-
-  place-at : (area rest : List ℕ) → area ≡ places image ++ rest → (n : ℕ) → n < capacity size → getD area n 0 ≡ entryOf (holder image n)
-  unfolding places logicalNumbers
-  place-at area rest e n h =
-      let l : capacity (length image) ≡ capacity size = ap capacity (u .has-size) in
-      ap (λ (a : List ℕ). getD a n 0) e
-      ∙ List·getD-append (places image) rest 0 n (omega (arith, h, l, places-length image))
-      ∙ range-at (λ n. entryOf (holder image n)) 0 (capacity (length image)) n 0 (omega (arith, h, l))
-      ∙ ap (λ (i : ℕ). entryOf (holder image i)) (omega arith)
-
-  -- an area whose entry of a block's number is the holder's names the holders
-  named-is : (area : List ℕ) (k : ℕ) → 1 ≤ k → ((n : ℕ) → n < capacity size → getD area n 0 ≡ entryOf (holder image n)) → namedIn area size image k ≡ isHolder image k
-  unfolding namedIn isHolder
-  named-is area k lo e = go (legalNumber size (number (blockAt image k))) refl
-    where
-      n : ℕ
-      n = number (blockAt image k)
-
-      go : (t : Bool) → legalNumber size (number (blockAt image k)) ≡ t
-          → (t && eqb (getD area (number (blockAt image k)) 0) k) ≡ isAt (holder image (number (blockAt image k))) k
-      go true q =
-          let h = ltb-true (number (blockAt image k)) (capacity size) (sym (legal-below size (number (blockAt image k)) m) ∙ q) in
-          ap (λ (x : ℕ). eqb x k) (e (number (blockAt image k)) h) ∙ at-entry (holder image (number (blockAt image k))) k lo
-      go false q = sym (ap (λ (o : Option ℕ). isAt o k) (holder-none image size count u (number (blockAt image k)) q))
+  pub kept-rise : (area : List ℕ) → RisingBlocks 1 (length image) (keptBlocks area image count)
+  unfolding keptBlocks
+  kept-rise area =
+      let w = usable-measured image size count u .whole in
+      rising-keep (isKept area image) 1 count (length image) (omega (arith, w, u .has-size, count-most image size count u))
 
   -- no block above the used ones is a holder
   unused-holder : (k : ℕ) → count < k → k ≤ capacity (length image) → isHolder image k ≡ false
@@ -97,31 +86,29 @@ module _ (image : List ℕ) (size count : ℕ) (u : Usable image size count) whe
       keep-below (isHolder image) 1 count (capacity (length image)) (omega (arith, count-most image size count u, ap capacity (u .has-size)))
       (λ i a b. unused-holder i (omega (arith, a)) (omega (arith, b)))
 
-  pub named-holders : (area rest : List ℕ) → area ≡ places image ++ rest → namedBlocks area size image 1 count ≡ holders image
-  unfolding namedBlocks holders
-  named-holders area rest e =
-      ap (map (blockAt image)) (keep-same (namedIn area size image) (isHolder image) 1 count (λ i a b. named-is area i a (place-at area rest e)) ∙ sym used-holders)
+  -- a test of the holders that are kept of an area
+  kept-by : (area : List ℕ) (q : ℕ → Bool) → ((k : ℕ) → eqb (getD area (number (blockAt image k)) 0) 0 ≡ q k)
+      → keptBlocks area image count ≡ keep q (keep (isHolder image) (userBlocks (length image)))
+  unfolding keptBlocks isKept
+  kept-by area q e =
+      keep-same (isKept area image) (λ k. isHolder image k && q k) 1 count (λ k a b. rw (e k))
+      ∙ sym (keep-keep (isHolder image) q (numbersFrom 1 count)) ∙ ap (keep q) (sym used-holders)
 
-  -- with the saved number's entry cleared
-  other-is : (area rest : List ℕ) → area ≡ places image ++ rest → (n k : ℕ) → 1 ≤ k → n < length area
-      → namedIn (set area n 0) size image k ≡ (isHolder image k && not (eqb (number (blockAt image k)) n))
-  unfolding namedIn
-  other-is area rest e n k lo h = go (ℕ-discrete (number (blockAt image k)) n)
-    where
-      go : Dec (number (blockAt image k) ≡ n)
-          → (legalNumber size (number (blockAt image k)) && eqb (getD (set area n 0) (number (blockAt image k)) 0) k)
-          ≡ (isHolder image k && not (eqb (number (blockAt image k)) n))
-      go (yes q) =
-          let z : getD (set area n 0) (number (blockAt image k)) 0 ≡ 0 = ap (λ (i : ℕ). getD (set area n 0) i 0) q ∙ getD-set-same area n 0 0 h in
-          rw (z, ne-eqb 0 k (λ d. omega (arith, d, lo)), eq-eqb (number (blockAt image k)) n q, and-false (legalNumber size (number (blockAt image k))), and-false (isHolder image k))
-      go (no d) =
-          rw (getD-set-other area n (number (blockAt image k)) 0 0 d, ne-eqb (number (blockAt image k)) n d, and-true (isHolder image k))
-          (unfold namedIn in named-is area k lo (place-at area rest e))
+  module _ (area : List ℕ) (blank : Blank area) where
+    pub kept-holders : map (blockAt image) (keptBlocks area image count) ≡ holders image
+    unfolding holders
+    kept-holders = ap (map (blockAt image)) (kept-by area (λ k. true) (λ k. rw (blank (number (blockAt image k)))) ∙ keep-all (keep (isHolder image) (userBlocks (length image))))
 
-  pub named-others : (area rest : List ℕ) → area ≡ places image ++ rest → (n : ℕ) → n < length area → namedBlocks (set area n 0) size image 1 count ≡ otherHolders image n
-  unfolding namedBlocks holders otherHolders
-  named-others area rest e n h =
-      let q : ℕ → Bool = λ k. not (eqb (number (blockAt image k)) n) in
-      ap (map (blockAt image)) (keep-same (namedIn (set area n 0) size image) (λ k. isHolder image k && q k) 1 count (λ i a b. other-is area rest e n i a h)
-      ∙ sym (keep-keep (isHolder image) q (numbersFrom 1 count)) ∙ ap (keep q) (sym used-holders))
-      ∙ keep-map (blockAt image) (λ b. not (eqb (number b) n)) (keep (isHolder image) (userBlocks (length image)))
+    -- with an entry for the saved number
+    marked : (n v m : ℕ) → n < length area → eqb v 0 ≡ false → eqb (getD (set area n v) m 0) 0 ≡ not (eqb m n)
+    marked n v m h d = go (ℕ-discrete m n)
+      where
+        go : Dec (m ≡ n) → eqb (getD (set area n v) m 0) 0 ≡ not (eqb m n)
+        go (yes q) = rw (q, getD-set-same area n v 0 h, d, eq-eqb n n refl)
+        go (no o) = rw (getD-set-other area n m v 0 o, blank m, ne-eqb m n o)
+
+    pub kept-others : (n v : ℕ) → n < length area → eqb v 0 ≡ false → map (blockAt image) (keptBlocks (set area n v) image count) ≡ otherHolders image n
+    unfolding holders otherHolders
+    kept-others n v h d =
+        ap (map (blockAt image)) (kept-by (set area n v) (λ k. not (eqb (number (blockAt image k)) n)) (λ k. marked n v (number (blockAt image k)) h d))
+        ∙ keep-map (blockAt image) (λ b. not (eqb (number b) n)) (keep (isHolder image) (userBlocks (length image)))

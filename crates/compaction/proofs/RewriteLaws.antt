@@ -42,5 +42,8 @@ unfolding legalSize sizes capacity firstBitmap blocks bitmapBlocks
 numbers-enough size h = leb-true (capacity size) 1021 (in-table (λ n. leb (capacity n) 1021) sizes refl size h)
 
 -- an area as it is made
-pub new-area : Blank (replicate 1021 0)
+abbrev pub blankArea : List ℕ
+blankArea = replicate 1021 0
+
+pub new-area : Blank blankArea
 new-area = blank-new 1021

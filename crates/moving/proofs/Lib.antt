@@ -1,3 +1,3 @@
 pub mod MoveLaws
 pub mod BitLaws
-pub mod NamedLaws
+pub mod ConservedLaws

@@ -1,8 +1,7 @@
-// The used blocks that an area of places names, moved down to 1, 2, 3 and on; then FF, and the bits of what stands there.
+// Blocks of a rising list, moved down to 1, 2, 3 and on; then FF, and the bits of what stands there.
 use measures::BLOCK;
 use measures::Measures;
 use words::fill;
-use words::word;
 ghost use mathlib.Core.Path.{_≡_};
 ghost use mathlib.Core.List.{_++_};
 ghost use Prim.Native.Nat.{_+_, _-_, _*_, _≤_, _<_};
@@ -12,7 +11,7 @@ ghost use Rattle.flash_model.specs.Bitmap.{firstCleared};
 ghost use Rattle.flash_model.specs.Partition.{blockAt, bitmapOf};
 ghost use Rattle.flash_model.specs.Update as model;
 ghost use Rattle.bitmap.specs.Over.{Over};
-ghost use Rattle.moving.specs.Moving.{Moved, AllMoved, IsBlank};
+ghost use Rattle.moving.specs.Moving.{RisingBlocks, AllMoved, IsBlank};
 
 // Block `from` copied over block `to`, which is not above it. Where no lower block was dropped it stands there already.
 fn move_block(image: &mut [u8], from: usize, to: usize)
@@ -31,35 +30,15 @@ fn move_block(image: &mut [u8], from: usize, to: usize)
     }
 }
 
-// Block k moved down to `to`, if the area names it for its number. The answer is the next block to fill.
-fn keep_block(image: &mut [u8], m: Measures, area: &[u16], k: usize, to: usize) -> usize
-    requires { ⌜ Over (now image) (m .size) ⌝ }
-    requires { ⌜ (to ≤ k) × (k ≤ capacity (m .size)) × (capacity (m .size) ≤ length (now area)) ⌝ }
-    ensures { λ r. ⌜ Moved (now (area .entry)) (m .size) k to (now (image .entry)) (now (image .exit)) r ⌝ }
-{
-    let at = m.start(k);
-    let number = word(&image[at..], 0);
-    if !m.legal_number(number) {
-        return to;
-    }
-    if area[number] as usize != k {
-        return to;
-    }
-    move_block(image, k, to);
-    to + 1
-}
-
-// The used blocks that the area names, at 1, 2, 3 and on. The answer is the next block to fill.
-pub fn keep_blocks(image: &mut [u8], m: Measures, used: usize, area: &[u16]) -> usize
-    requires { ⌜ Over (now image) (m .size) ⌝ }
-    requires { ⌜ (used ≤ capacity (m .size)) × (capacity (m .size) ≤ length (now area)) ⌝ }
-    ensures { λ r. ⌜ AllMoved (now (area .entry)) (m .size) used (now (image .entry)) (now (image .exit)) r ⌝ }
+// The listed blocks, which rise, moved down to 1, 2, 3 and on. The answer is the next block to fill.
+pub fn keep_blocks(image: &mut [u8], kept: &[u16]) -> usize
+    requires { ⌜ RisingBlocks 1 (length (now image)) (now kept) ⌝ }
+    ensures { λ r. ⌜ AllMoved (now (kept .entry)) (now (image .entry)) (now (image .exit)) r ⌝ }
 {
     let mut to: usize = 1;
-    let mut k: usize = 1;
-    while k <= used {
-        to = keep_block(image, m, area, k, to);
-        k += 1;
+    while to <= kept.len() {
+        move_block(image, kept[to - 1] as usize, to);
+        to += 1;
     }
     to
 }

@@ -1,54 +1,63 @@
 -- `moving::keep_blocks` meets its contract. The loop's invariant: what stands below the next place, with what is still to be moved there,
 -- is what it was at the start. Assumes nothing.
-use Prim.Native.Nat.{_+_, _-_, _≤_}
-use mathlib.Core.Path.{_∙_}
+use Prim.Native.Nat.{_+_, _-_}
 use native.Mathlib.Omega.{arith}
-use Rattle.journal.proofs.OverLaws.{within}
-use Rattle.moving.proofs.NamedLaws.{Conserved, conserved-start, conserved-next, all-moved}
+use lib.ListN.{length}
+use Rattle.moving.proofs.ConservedLaws.{Conserved, conserved-start, next-down, next-fits, conserved-next, all-moved}
+use borrow.Author.Needs.{needs}
 use Rattle.moving.proofs.keep_blocks.Statement.{statement}
 use Rattle.moving.proofs.keep_blocks.Tie as tie
 
 abbrev Inv-loop : tie.InvT-loop
-Inv-loop image₀ m used area to₀ k₀ image to k = (k ≤ used + 1) × Conserved area (m .size) used k₀ to₀ image₀ k to image
+Inv-loop image₀ kept to₀ image to = Conserved kept image₀ to image
 
 abbrev μ-loop : tie.MeasureT-loop
-μ-loop image₀ m used area to₀ k₀ image to k = used + 1 - k
+μ-loop image₀ kept to₀ image to = length kept + 1 - to
 
 loop-holds : tie.Need-loop-holds Inv-loop μ-loop
 loop-holds c =
-    let a = c .before .before .args in
-    (omega arith, conserved-start (a .area .now) (a .m .size) (a .used) (a .image .now))
+    let a = c .before .before in
+    conserved-start (a .args .kept .now) (a .args .image .now) (a .pre)
 
-keep-block-requires : tie.Need-keep-block-requires Inv-loop μ-loop
-keep-block-requires c κs =
-    let s = c .before .before .loop .inv .1 in
-    let a = c .before .before .before .before .before in
-    (record { has-size = s .same-length ∙ a .pre .0 .has-size; is-legal = a .pre .0 .is-legal }, (s .not-above, omega arith, a .pre .1 .1))
+sub-move-block : tie.Need-sub-move-block Inv-loop μ-loop
+sub-move-block c = search needs
 
-add-k : tie.Need-add-k Inv-loop μ-loop
-add-k c = omega arith
+mul-move-block : tie.Need-mul-move-block Inv-loop μ-loop
+mul-move-block c = search needs
+
+shared-slice-read-move-block : tie.Need-shared-slice-read-move-block Inv-loop μ-loop
+shared-slice-read-move-block c = search needs
+
+cast-move-block : tie.Need-cast-move-block Inv-loop μ-loop
+cast-move-block c = omega (arith, c .shared-slice-known2 .given (c .before .before .before .loop .to - 1))
+
+move-block-requires : tie.Need-move-block-requires Inv-loop μ-loop
+move-block-requires c κs =
+    let l = c .before .before .before in
+    let a = l .before .before .before .args in
+    let t = c .before .before .loop-test .taken in
+    (omega (arith, l .loop .inv .low, next-down (a .kept .now) (a .image .now) (l .loop .to) (l .loop .image) (l .loop .inv) t), next-fits (a .kept .now) (a .image .now) (l .loop .to) (l .loop .image) (l .loop .inv) t)
+
+add-to : tie.Need-add-to Inv-loop μ-loop
+add-to c = search needs
 
 loop-less : tie.Need-loop-less Inv-loop μ-loop
-loop-less c = omega arith
+loop-less c = search needs
 
 loop-again : tie.Need-loop-again Inv-loop μ-loop
 loop-again c =
-    let at = c .before .before .before .before .before in
-    let a = at .before .before .before in
-    let h : at .loop .k ≤ a .args .used = omega (arith, c .before .before .before .before .loop-test .taken) in
-    let w = within (at .loop .k) (a .pre .0) (omega arith) in (
-      omega arith,
-      conserved-next (a .args .area .now) (a .args .m .size) (a .args .used) h
-          (omega (arith, w .inside, at .loop .inv .1 .same-length)) (at .loop .inv .1) (c .before .before .keep-block .ensures),
-    )
+    let l = c .before .before .before .before .before .before in
+    let a = l .before .before .before .args in
+    conserved-next (a .kept .now) (a .image .now) (l .loop .to) (l .loop .image) (l .loop .inv) (c .before .before .before .before .before .loop-test .taken) _
+    (c .before .before .move-block .ensures)
 
 same-length : tie.Need-same-length Inv-loop μ-loop
-same-length c = c .before .loop .inv .1 .same-length
+same-length c = search needs
 
 returns : tie.Need-returns Inv-loop μ-loop
 returns c =
     let a = c .before .before .before .before .args in
-    all-moved (a .area .now) (a .m .size) (a .used) (c .before .loop .k) (c .before .loop .to) (a .image .now) (c .before .loop .image) (c .loop-test .left) (c .before .loop .inv .1)
+    all-moved (a .kept .now) (a .image .now) (c .before .loop .to) (c .before .loop .image) (c .before .loop .inv) (c .loop-test .left)
 
 pub keep-blocks-spec : {M : Type 1} → statement M
 keep-blocks-spec =
@@ -57,8 +66,12 @@ keep-blocks-spec =
     Inv-loop
     μ-loop
     loop-holds
-    keep-block-requires
-    add-k
+    sub-move-block
+    mul-move-block
+    shared-slice-read-move-block
+    cast-move-block
+    move-block-requires
+    add-to
     loop-less
     loop-again
     same-length
