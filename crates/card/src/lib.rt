@@ -26,14 +26,15 @@ ghost use Rattle.verdicts.specs.declared.Place.the-variants.{Whole};
 ghost use Rattle.verdicts.specs.Rows.{accepted};
 ghost use Rattle.card_model.specs.Layout.{tableOf, directoryOf};
 ghost use Rattle.card_model.specs.Calls.{directoryRows, verdictOf, checkOf, notChecked, notListed, listedEntry, listOf, entryNamed, readRows, readVerdict, leftBy, readBuffer};
+ghost use Rattle.card_model.specs.Files.{filesBefore};
 ghost use Rattle.card_model.specs.Sound.{NoRowRefuses};
-ghost use Rattle.card_chains.specs.Marks.{noMarks, fileMarks};
+ghost use Rattle.card_chains.specs.Marks.{noMarks, Marking};
 
 // Refusals 26 to 30; the blocks of all files are marked where none applies.
 fn judge_files(card: &[u8], marks: &mut [u8; 200]) -> Verdict
     requires { ⌜ (length (now card) ≡ 131072) × (now marks ≡ noMarks) ⌝ }
     ensures { λ r. ⌜ r ≡ directoryRows (tableOf (now (card .entry))) (directoryOf (now (card .entry))) ⌝ }
-    ensures { λ r. ⌜ (accepted r ≡ true → now (marks .exit) ≡ fileMarks (tableOf (now (card .entry))) (directoryOf (now (card .entry))) 208) ⌝ }
+    ensures { λ r. ⌜ (accepted r ≡ true → Marking (filesBefore (tableOf (now (card .entry))) (directoryOf (now (card .entry))) 208) (now (marks .exit))) ⌝ }
 {
     let mut used = [0u8; 208];
     let list = list_used(card, &mut used);

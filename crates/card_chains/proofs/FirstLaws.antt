@@ -6,7 +6,7 @@ use mathlib.Core.Option.{Option, none, some}
 use native.Mathlib.Omega.{arith}
 use native.Mathlib.Numerals.{add-one}
 use lib.Dec.{ltb}
-use borrow.Author.Tests.{lt-ltb, le-ltb}
+use borrow.Author.Tests.{ltb-true, lt-ltb, le-ltb}
 use Rattle.words.specs.Search.{lowest}
 use Rattle.words.proofs.SearchLaws.{lowest-some, lowest-snoc, else}
 
@@ -33,18 +33,30 @@ before-same p i q = before-next p i ∙ rw q (go (firstBefore p i))
     go (some k) = refl
 
 module _ (p : ℕ → Bool) (end first : ℕ) where
-  pub first-next : (i r : ℕ) (t : Bool) → i < end → first ≡ orEnd end (firstBefore p i) → t ≡ p i
-      → r ≡ cond (ltb first end) first (cond t i first) → r ≡ orEnd end (firstBefore p (i + 1))
-  unfolding firstBefore
-  first-next i r t h e q f =
-      let more : firstBefore p (i + 1) ≡ else (firstBefore p i) (cond t (some i) none) = rw (add-one i, before-next p i, q) in
-      f ∙ go t (firstBefore p i) refl e ∙ ap (orEnd end) (sym more)
-    where
-      go : (t : Bool) (o : Option ℕ) → firstBefore p i ≡ o → first ≡ orEnd end o
-          → cond (ltb first end) first (cond t i first) ≡ orEnd end (else o (cond t (some i) none))
-      go true none l d = rw (le-ltb first end (omega arith))
-      go false none l d = rw (le-ltb first end (omega arith)) d
-      go t (some k) l d = rw (lt-ltb first end (omega (arith, lowest-some p 0 i k l .high))) d
+  module _ (i r : ℕ) (t : Bool) (h : i < end) (f : r ≡ cond (ltb first end) first (cond t i first)) where
+    pub first-next : first ≡ orEnd end (firstBefore p i) → (end ≤ first → t ≡ p i) → r ≡ orEnd end (firstBefore p (i + 1))
+    unfolding firstBefore
+    first-next e q =
+        let more : firstBefore p (i + 1) ≡ else (firstBefore p i) (cond (p i) (some i) none) = rw (add-one i, before-next p i) in
+        f ∙ go (firstBefore p i) refl e ∙ ap (orEnd end) (sym more)
+      where
+        go : (o : Option ℕ) → firstBefore p i ≡ o → first ≡ orEnd end o
+            → cond (ltb first end) first (cond t i first) ≡ orEnd end (else o (cond (p i) (some i) none))
+        go none l d = rw (le-ltb first end (omega arith), q (omega arith)) (here (p i))
+          where
+            here : (s : Bool) → cond s i first ≡ orEnd end (else none (cond s (some i) none))
+            here true = refl
+            here false = d
+        go (some k) l d = rw (lt-ltb first end (omega (arith, lowest-some p 0 i k l .high))) d
+
+    -- none is remembered still
+    pub still-none : end ≤ r → (end ≤ first) × (t ≡ false)
+    still-none n = go (ltb first end) refl t f
+      where
+        go : (s : Bool) → ltb first end ≡ s → (t : Bool) → r ≡ cond s first (cond t i first) → (end ≤ first) × (t ≡ false)
+        go true l t f = absurd (omega (arith, ltb-true first end l))
+        go false l true f = absurd (omega arith)
+        go false l false f = (omega arith, refl)
 
   -- where the loop ends
   module _ (e : first ≡ orEnd end (firstBefore p end)) where

@@ -1,79 +1,57 @@
--- Laws of the marks: what is marked after some blocks were, and what the walk along an entry's file makes of the marks of the
--- files before it. Assumes nothing.
-use Prim.Native.Nat.{ℕ, suc, _+_, _-_, _≤_, _<_}
-use mathlib.Core.Path.{_≡_, refl, sym, ap, _∙_}
-use mathlib.Core.Bool.{Bool, true, false, not, cond, _&&_, _||_, or-false, Bool·not-not}
-use mathlib.Core.List.{List, [], _∷_, _++_}
+-- Laws of the marks: what one more mark makes of them, and what the walk along an entry's file makes of the marks of the files
+-- before it. Assumes nothing.
+use Prim.Native.Nat.{ℕ, zero, suc, _+_, _-_, _≤_, _<_}
+use mathlib.Core.Path.{_≡_, refl, sym, ap, subst, _∙_}
+use mathlib.Core.Bool.{Bool, true, false, not, cond, _&&_, _||_, or-comm, or-true, false≢true, Bool·not-not}
+use mathlib.Core.List.{List, [], _∷_, append-nil}
 use mathlib.Core.Option.{Option, none, some}
 use native.Mathlib.Omega.{arith}
 use native.Mathlib.Numerals.{add-one}
-use lib.Dec.{eqb, ltb}
-use lib.ListN.{length, getD, set, length-set, getD-replicate}
+use lib.Dec.{eqb}
+use lib.ListN.{length, getD, set, replicate}
 use lib.Seq.{getD-set-same, getD-set-other}
-use borrow.Author.Tests.{eqb-true, eqb-false, ne-eqb}
-use Rattle.words.specs.Lists.{keep, anyOf, has, Distinct, isSome, numbersFrom}
-use Rattle.words.proofs.Bools.{or-false-left, or-false-right}
-use Rattle.words.proofs.ListLaws.{All, all-mono}
+use borrow.Author.Tests.{eqb-true, eqb-false, eq-eqb, ne-eqb}
+use Rattle.words.specs.Lists.{keep, anyOf, has, isSome, numbersFrom}
+use Rattle.words.proofs.JoinLaws.{any-append}
 use Rattle.words.proofs.LoopLaws.{numbers-next, numbers-end}
 use Rattle.card_model.specs.declared.Link.{Link}
 use Rattle.card_model.specs.Table.{fatEntry, linkOf, linkAt, freeOrDamaged}
-use Rattle.card_model.specs.Entries.{isUsed, wrongEntry, entryAt}
+use Rattle.card_model.specs.Entries.{isUsed, entryAt}
 use Rattle.card_model.specs.Files.{chainOf, badChain, fileOf, filesBefore, sharesBlock, isOrphan, orphans}
-use Rattle.card_model.proofs.ChainLaws.{chain-below, chain-distinct}
-use Rattle.card_model.proofs.EntryLaws.{right-entry, file-chain, no-file, files-snoc}
-use Rattle.card_chains.specs.Marks.{noMarks, isMarked, markAll, metMark, fileMarks, outcome, answer, Walked, isBroken, isShared}
+use Rattle.card_model.proofs.EntryLaws.{file-chain, no-file, files-snoc}
+use Rattle.card_chains.specs.Marks.{noMarks, isMarked, Lengths, Marking, outcome, answer, Walked, isBroken, isShared}
 
--- ---- blocks that are marked one after the other
+-- ---- one more mark
 
-mark-append : (xs ys marks : List ℕ) → markAll (xs ++ ys) marks ≡ markAll ys (markAll xs marks)
-unfolding markAll
-mark-append [] ys marks = refl
-mark-append (x ∷ xs) ys marks = mark-append xs ys (set marks x 1)
+module _ (marks : List ℕ) (b v : ℕ) (h : b < length marks) where
+  pub marked-set : (v ≡ 0 → ⊥) → (x : ℕ) → isMarked (set marks b v) x ≡ (eqb b x || isMarked marks x)
+  unfolding isMarked
+  marked-set n x = go (eqb b x) refl
+    where
+      go : (t : Bool) → eqb b x ≡ t → not (eqb (getD (set marks b v) x 0) 0) ≡ (t || not (eqb (getD marks x 0) 0))
+      go true e =
+          let d : b ≡ x = eqb-true b x e in
+          rw (← d, getD-set-same marks b v 0 h, ne-eqb v 0 n)
+      go false e = rw (getD-set-other marks b x v 0 (λ d. eqb-false b x e (sym d)))
 
-mark-length : (xs marks : List ℕ) → length (markAll xs marks) ≡ length marks
-unfolding markAll
-mark-length [] marks = refl
-mark-length (x ∷ xs) marks = mark-length xs (set marks x 1) ∙ length-set marks x 1
+  -- what holds of each marked block and its mark
+  pub set-each : (P : ℕ → ℕ → Type 0) → P b v → ((x : ℕ) → isMarked marks x ≡ true → P x (getD marks x 0))
+      → (x : ℕ) → isMarked (set marks b v) x ≡ true → P x (getD (set marks b v) x 0)
+  unfolding isMarked
+  set-each P new old x e = go (eqb b x) refl
+    where
+      go : (t : Bool) → eqb b x ≡ t → P x (getD (set marks b v) x 0)
+      go true d =
+          let q : b ≡ x = eqb-true b x d in
+          subst (λ (y : ℕ). P y (getD (set marks b v) y 0)) q (rw (getD-set-same marks b v 0 h) new)
+      go false d =
+          let q : getD (set marks b v) x 0 ≡ getD marks x 0 = getD-set-other marks b x v 0 (λ z. eqb-false b x d (sym z)) in
+          rw q (old x (rw q at e))
 
-marked-set : (marks : List ℕ) (x b : ℕ) → b < length marks → isMarked (set marks x 1) b ≡ (eqb x b || isMarked marks b)
-unfolding isMarked
-marked-set marks x b h = go (eqb x b) refl
-  where
-    go : (t : Bool) → eqb x b ≡ t → not (eqb (getD (set marks x 1) b 0) 0) ≡ (t || not (eqb (getD marks b 0) 0))
-    go true e =
-        let d : x ≡ b = eqb-true x b e in
-        rw (d, getD-set-same marks b 1 0 h)
-    go false e = rw (getD-set-other marks x b 1 0 (λ d. eqb-false x b e (sym d)))
-
-mark-has : (xs marks : List ℕ) (b : ℕ) → b < length marks → isMarked (markAll xs marks) b ≡ (has b xs || isMarked marks b)
-unfolding markAll
-mark-has [] marks b h = refl
-mark-has (x ∷ xs) marks b h =
-    mark-has xs (set marks x 1) b (rw length-set h) ∙ rw (marked-set marks x b h) (go (eqb x b) (has b xs) (isMarked marks b))
-  where
-    go : (s t u : Bool) → (t || (s || u)) ≡ ((s || t) || u)
-    go true true u = refl
-    go true false u = refl
-    go false t u = refl
-
-any-same : (p q : ℕ → Bool) (l : List ℕ) → All (λ x. p x ≡ q x) l → anyOf p l ≡ anyOf q l
+-- tests that agree on the list
+pub any-same : (p q : ℕ → Bool) (l : List ℕ) → ((x : ℕ) → has x l ≡ true → p x ≡ q x) → anyOf p l ≡ anyOf q l
 any-same p q [] a = refl
-any-same p q (x ∷ l) a = rw (a .0, any-same p q l (a .1))
-
--- the marks that a list of different blocks meets are those that were there
-met-any : (bs marks : List ℕ) → Distinct bs → All (λ b. b < length marks) bs → metMark bs marks ≡ anyOf (isMarked marks) bs
-unfolding metMark
-met-any [] marks d a = refl
-met-any (b ∷ bs) marks d a =
-    let a′ = all-mono (λ x. x < length marks) (λ x. x < length (set marks b 1)) (λ x h. rw length-set h) bs (a .1) in
-    ap (λ (t : Bool). isMarked marks b || t)
-    (met-any bs (set marks b 1) (d .1) a′ ∙ any-same (isMarked (set marks b 1)) (isMarked marks) bs (others bs (d .0) (a .1)))
-  where
-    others : (l : List ℕ) → has b l ≡ false → All (λ x. x < length marks) l → All (λ x. isMarked (set marks b 1) x ≡ isMarked marks x) l
-    others [] e a = tt
-    others (x ∷ l) e a =
-        let f = ne-eqb b x (λ q. eqb-false x b (or-false-left (eqb x b) (has b l) e) (sym q)) in
-        (marked-set marks b x (a .0) ∙ rw f, others l (or-false-right (eqb x b) (has b l) e) (a .1))
+any-same p q (y ∷ l) a = rw (a y (rw (eq-eqb y y refl)), any-same p q l (λ x e. a x (rw (e, or-true (eqb y x)))))
 
 -- ---- the file of a used entry
 
@@ -87,14 +65,9 @@ module _ (table entry : List ℕ) (u : isUsed entry ≡ true) where
     unfolding chainOf
     chain-file = file-chain entry u table e
 
-    -- different user blocks
-    file-blocks : wrongEntry entry ≡ false → Distinct (fileOf table entry) × All (λ b. b < 200) (fileOf table entry)
-    unfolding chainOf
-    file-blocks r = (chain-distinct _ _ _ _ chain-file, chain-below _ _ _ _ chain-file (right-entry entry u r .0))
-
-answer-broken : (o : Option (List ℕ)) (marks : List ℕ) → isBroken (answer o marks false) ≡ not (isSome o)
+answer-broken : (o : Option (List ℕ)) (marks : List ℕ) → isBroken (answer o marks) ≡ not (isSome o)
 answer-broken none marks = refl
-answer-broken (some bs) marks = go (metMark bs marks)
+answer-broken (some bs) marks = go (anyOf (isMarked marks) bs)
   where
     go : (t : Bool) → isBroken (outcome t) ≡ false
     go true = refl
@@ -106,21 +79,27 @@ outcome-shared false = refl
 
 -- ---- the files' marks
 
-module _ (table : List ℕ) (directory : List (List ℕ)) where
-  pub marks-start : fileMarks table directory 0 ≡ noMarks
-  unfolding fileMarks filesBefore markAll
-  marks-start = refl
+zero-at : (n b : ℕ) → _≡_ {A = ℕ} (getD (replicate n 0) b 0) 0
+zero-at zero b = refl
+zero-at (suc n) zero = refl
+zero-at (suc n) (suc b) = zero-at n b
 
-  marks-next : (i : ℕ) → markAll (fileOf table (entryAt directory i)) (fileMarks table directory i) ≡ fileMarks table directory (i + 1)
-  unfolding fileMarks
-  marks-next i = rw (add-one i, files-snoc table directory i) (sym (mark-append (filesBefore table directory i) (fileOf table (entryAt directory i)) noMarks))
+none-marked : (b : ℕ) → isMarked noMarks b ≡ false
+unfolding isMarked noMarks
+none-marked b = rw (zero-at 200 b)
+
+pub lengths-start : (table : List ℕ) → Lengths table noMarks
+unfolding noMarks
+lengths-start table = record { long = refl; each = λ b e. absurd (false≢true (sym (none-marked b) ∙ e)) }
+
+module _ (table : List ℕ) (directory : List (List ℕ)) where
+  pub marking-start : Marking (filesBefore table directory 0) noMarks
+  unfolding filesBefore
+  marking-start = record { exactly = none-marked }
 
   -- an unused entry has no file
-  pub marks-stay : (k : ℕ) → isUsed (entryAt directory k) ≡ false → fileMarks table directory (suc k) ≡ fileMarks table directory k
-  unfolding markAll
-  marks-stay k u =
-      let e : fileOf table (entryAt directory k) ≡ [] = no-file table (entryAt directory k) u in
-      ap (fileMarks table directory) (sym (add-one k)) ∙ sym (marks-next k) ∙ ap (λ (bs : List ℕ). markAll bs (fileMarks table directory k)) e
+  pub files-stay : (k : ℕ) → isUsed (entryAt directory k) ≡ false → filesBefore table directory (suc k) ≡ filesBefore table directory k
+  files-stay k u = files-snoc table directory k ∙ rw (no-file table (entryAt directory k) u, append-nil)
 
   pub unused-shares : (k : ℕ) → isUsed (entryAt directory k) ≡ false → sharesBlock table directory k ≡ false
   unfolding sharesBlock
@@ -132,18 +111,9 @@ module _ (table : List ℕ) (directory : List (List ℕ)) where
   unfolding badChain
   unused-bad k u = rw u
 
-  marks-length : (i : ℕ) → length (fileMarks table directory i) ≡ 200
-  unfolding fileMarks noMarks
-  marks-length i = mark-length (filesBefore table directory i) noMarks
-
-  files-marked : (i b : ℕ) → b < 200 → isMarked (fileMarks table directory i) b ≡ has b (filesBefore table directory i)
-  unfolding fileMarks noMarks isMarked
-  files-marked i b h =
-      mark-has (filesBefore table directory i) noMarks b h ∙ rw (getD-replicate {A = ℕ} 200 b 0 0 h, or-false)
-
   -- the walk along the file of entry i
-  module _ (i : ℕ) (u : isUsed (entryAt directory i) ≡ true) {found : ℕ} {marks marks′ : List ℕ} (m : marks ≡ fileMarks table directory i)
-      (w : Walked (chainOf table (entryAt directory i)) marks false found marks′) where
+  module _ (i : ℕ) (u : isUsed (entryAt directory i) ≡ true) {found : ℕ} {marks marks′ : List ℕ}
+      (w : Walked table (chainOf table (entryAt directory i)) marks found marks′) where
     pub walk-broken : isBroken found ≡ badChain table (entryAt directory i)
     walk-broken = ap isBroken (w .answers) ∙ answer-broken (chainOf table (entryAt directory i)) marks ∙ sym (chain-bad table (entryAt directory i) u)
 
@@ -151,28 +121,37 @@ module _ (table : List ℕ) (directory : List (List ℕ)) where
       there : chainOf table (entryAt directory i) ≡ some (fileOf table (entryAt directory i))
       there = chain-file table (entryAt directory i) u (sym walk-broken ∙ sound)
 
-      pub walk-marks : marks′ ≡ fileMarks table directory (i + 1)
-      walk-marks = w .marked _ there ∙ rw m (marks-next i)
+      pub walk-lengths : Lengths table marks′
+      walk-lengths = w .lengths (ap isSome there)
 
-      pub walk-shares : wrongEntry (entryAt directory i) ≡ false → isShared found ≡ sharesBlock table directory i
-      unfolding sharesBlock
-      walk-shares r =
-          let file = fileOf table (entryAt directory i) in
-          let before = fileMarks table directory i in
-          let f = file-blocks table (entryAt directory i) u (sym walk-broken ∙ sound) r in
-          let below = all-mono (λ b. b < 200) (λ b. b < length before) (λ b h. rw (marks-length i) h) file (f .1) in
-          let same = all-mono (λ b. b < 200) (λ b. isMarked before b ≡ has b (filesBefore table directory i)) (files-marked i) file (f .1) in
-          let q : found ≡ outcome (metMark file before) = w .answers ∙ rw (there, m) in
-          ap isShared q ∙ outcome-shared (metMark file before) ∙ met-any file before (f .0) below ∙ any-same _ _ file same
+      shared : isShared found ≡ anyOf (isMarked marks) (fileOf table (entryAt directory i))
+      shared =
+          let q : found ≡ outcome (anyOf (isMarked marks) (fileOf table (entryAt directory i))) = w .answers ∙ rw there in
+          ap isShared q ∙ outcome-shared (anyOf (isMarked marks) (fileOf table (entryAt directory i)))
+
+      module _ (m : Marking (filesBefore table directory i) marks) where
+        pub walk-shares : isShared found ≡ sharesBlock table directory i
+        unfolding sharesBlock
+        walk-shares = shared ∙ any-same _ _ (fileOf table (entryAt directory i)) (λ b e. m .exactly b)
+
+        pub walk-marking : isShared found ≡ false → Marking (filesBefore table directory (i + 1)) marks′
+        walk-marking apart = record { exactly = now-marked }
+          where
+            now-marked : (b : ℕ) → isMarked marks′ b ≡ has b (filesBefore table directory (i + 1))
+            now-marked b =
+                let before = filesBefore table directory i in
+                let file = fileOf table (entryAt directory i) in
+                w .marked file there (sym shared ∙ apart) b ∙ ap (λ (t : Bool). has b file || t) (m .exactly b) ∙ or-comm (has b file) (has b before)
+                ∙ sym (any-append (λ x. eqb x b) before file) ∙ rw (add-one i, files-snoc table directory i)
 
   -- ---- orphans
 
-  pub orphan-is : (b : ℕ) {marks : List ℕ} → marks ≡ fileMarks table directory 208 → b < 200 → (e : ℕ) → e ≡ fatEntry table b
+  pub orphan-is : (b : ℕ) {marks : List ℕ} → Marking (filesBefore table directory 208) marks → (e : ℕ) → e ≡ fatEntry table b
       → (l : Link) → l ≡ linkOf e → (unused : Bool) → unused ≡ freeOrDamaged l → isOrphan table directory b ≡ (not unused && eqb (getD marks b 0) 0)
   unfolding isOrphan linkAt isMarked
-  orphan-is b {marks} m h e q l p unused u =
-      let unmarked = ap not (sym (files-marked 208 b h)) ∙ Bool·not-not (eqb (getD (fileMarks table directory 208) b 0) 0) in
-      rw (m, u, p, q, unmarked)
+  orphan-is b {marks} m e q l p unused u =
+      let unmarked = ap not (sym (m .exactly b)) ∙ Bool·not-not (eqb (getD marks b 0) 0) in
+      rw (u, p, q, unmarked)
 
 -- ---- how many numbers from k on, below e, pass
 

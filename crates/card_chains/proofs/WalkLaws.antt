@@ -1,22 +1,25 @@
 -- One step along a chain: what it makes of a walk's answer and marks, and of the block some steps on. Assumes nothing.
-use Prim.Native.Nat.{ℕ, zero, suc, _-_, _<_}
+use Prim.Native.Nat.{ℕ, zero, suc, _-_, _≤_, _<_}
 use mathlib.Core.Path.{_≡_, refl, sym, ap, subst, _∙_}
-use mathlib.Core.Bool.{Bool, true, false, cond, _||_, or-assoc, or-false}
+use mathlib.Core.Bool.{Bool, true, false, cond, _||_, or-false, false≢true}
 use mathlib.Core.List.{List, [], _∷_}
 use mathlib.Core.Option.{Option, none, some, Option·map}
 use native.Mathlib.Omega.{arith}
 use lib.Dec.{eqb}
-use lib.ListN.{getD, set}
+use lib.ListN.{length, getD, set, length-set}
 use borrow.Author.Tests.{eqb-true, eqb-false, eq-eqb, ne-eqb}
+use Rattle.words.specs.Lists.{anyOf, has, isSome}
+use Rattle.words.proofs.Bools.{or-false-right}
 use Rattle.card_model.specs.declared.Link.{Link}
 use Rattle.card_model.specs.declared.Link.the-variants.{Free, Damaged, Last, Next, Bad}
 use Rattle.card_model.specs.Table.{linkAt}
 use Rattle.card_model.specs.Entries.{firstBlock, size, isUsed, wrongEntry}
 use Rattle.card_model.specs.Files.{chainStep, chain, chainOf}
 use Rattle.card_model.proofs.TableLaws.{next-below}
-use Rattle.card_model.proofs.ChainLaws.{Links, ends, goes, chain-links, chain-head}
+use Rattle.card_model.proofs.ChainLaws.{Links, ends, goes, chain-links, chain-head, chain-distinct}
 use Rattle.card_model.proofs.EntryLaws.{right-entry}
-use Rattle.card_chains.specs.Marks.{isMarked, markAll, metMark, outcome, broken, Walked, IsAfter}
+use Rattle.card_chains.specs.Marks.{isMarked, Lengths, outcome, broken, Walkable, Walked, IsAfter}
+use Rattle.card_chains.proofs.MarkLaws.{marked-set, set-each, any-same}
 
 pub step-below : (table : List ℕ) (b n : ℕ) {l : Link} → l ≡ linkAt table b → l ≡ Next n → n < 200
 unfolding linkAt
@@ -36,52 +39,146 @@ chain-step table (suc left) b h q told =
 
 -- ---- the walk
 
-module _ (marks : List ℕ) (shared : Bool) where
-  pub walked-broken : {o : Option (List ℕ)} (marks′ : List ℕ) → o ≡ none → Walked o marks shared broken marks′
-  walked-broken marks′ e = record {
+module _ (table : List ℕ) where
+  -- where a chain starts tells how long it is
+  links-same : {m n b : ℕ} {bs cs : List ℕ} → Links table m b bs → Links table n b cs → m ≡ n
+  links-same (ends q) (ends r) = refl
+  links-same (ends q) (goes r l) = let z : _≡_ {A = ℕ} 0 1 = cc in absurd (omega arith)
+  links-same (goes q l) (ends r) = let z : _≡_ {A = ℕ} 0 1 = cc in absurd (omega arith)
+  links-same (goes {n = i} q l) (goes {left = k} {n = j} {bs = cs} r m) =
+      let e : j ≡ i = cc in
+      ap suc (links-same l (subst (λ (x : ℕ). Links table k x cs) e m))
+
+  one-length : (m n b : ℕ) (cs : List ℕ) → isSome (chain table m b) ≡ true → chain table n b ≡ some cs → m ≡ n
+  one-length m n b cs p f = go (chain table m b) refl p
+    where
+      go : (o : Option (List ℕ)) → chain table m b ≡ o → isSome o ≡ true → m ≡ n
+      go none e p = absurd (false≢true p)
+      go (some bs) e p = links-same (chain-links table m b bs e) (chain-links table n b cs f)
+
+  pub walked-broken : {o : Option (List ℕ)} (marks marks′ : List ℕ) → o ≡ none → Walked table o marks broken marks′
+  walked-broken marks marks′ e = record {
     answers = rw e;
-    marked = λ bs f. let z : _≡_ {A = ℕ} 0 1 = cc in absurd (omega arith);
+    lengths = λ s. absurd (false≢true (sym (ap isSome e) ∙ s));
+    marked = λ bs f. absurd (false≢true (sym (ap isSome e) ∙ ap isSome f));
   }
 
-  module _ {o : Option (List ℕ)} {found : ℕ} {marks′ : List ℕ} where
-    walked-some : (blocks : List ℕ) → o ≡ some blocks → found ≡ outcome (shared || metMark blocks marks) → marks′ ≡ markAll blocks marks
-        → Walked o marks shared found marks′
-    walked-some blocks e a m = record {
-      answers = a ∙ rw e;
-      marked = λ bs f. let z : blocks ≡ bs = cc in m ∙ ap (λ (l : List ℕ). markAll l marks) z;
-    }
+  pub walkable : (marks : List ℕ) (left b : ℕ) → Lengths table marks → Walkable table marks left b
+  walkable marks left b l = record { many = l .long; up-to-left = λ x e h. l .each x e; all-if-good = λ s. l }
 
-    pub walked-next : (b : ℕ) (p : Option (List ℕ)) → o ≡ Option·map (λ (blocks : List ℕ). b ∷ blocks) p
-        → Walked p (set marks b 1) (shared || isMarked marks b) found marks′ → Walked o marks shared found marks′
-    unfolding markAll metMark
-    walked-next b none e w = rw (w .answers) (walked-broken marks′ e)
-    walked-next b (some rest) e w =
-        walked-some (b ∷ rest) e
-        (w .answers ∙ ap outcome (or-assoc shared (isMarked marks b) (metMark rest (set marks b 1))))
-        (w .marked rest refl)
+  -- at block b, with so many blocks left
+  module _ (marks : List ℕ) (b left : ℕ) (k : Walkable table marks left b) where
+    pub walked-met : {found mark : ℕ} → mark ≡ getD marks b 0 → (mark ≡ 0 → ⊥) → found ≡ cond (eqb mark left) (outcome true) broken
+        → Walked table (chain table left b) marks found marks
+    unfolding isMarked
+    walked-met {found} {mark} m h q = go (chain table left b) refl (eqb mark left) refl
+      where
+        is-marked : isMarked marks b ≡ true
+        is-marked = rw (← m, ne-eqb mark 0 h)
 
-  pub walked-last : {o : Option (List ℕ)} {found : ℕ} (b left : ℕ) → (left ≡ 0 → ⊥) → o ≡ cond (eqb (left - 1) 0) (some (b ∷ [])) none
-      → found ≡ cond (eqb left 1) (outcome (shared || isMarked marks b)) broken → Walked o marks shared found (set marks b 1)
-  unfolding markAll metMark
-  walked-last {o} {found} b left h e q = go (eqb left 1) refl
-    where
-      go : (t : Bool) → eqb left 1 ≡ t → Walked o marks shared found (set marks b 1)
-      go true d =
-          let f = eq-eqb (left - 1) 0 (omega (arith, eqb-true left 1 d)) in
-          walked-some (b ∷ []) (e ∙ rw f) (q ∙ rw (d, or-false (isMarked marks b))) refl
-      go false d =
-          let f = ne-eqb (left - 1) 0 (λ z. omega (arith, h, eqb-false left 1 d)) in
-          let g : found ≡ broken = q ∙ rw d in
-          rw g (walked-broken (set marks b 1) (e ∙ rw f))
+        go : (o : Option (List ℕ)) → chain table left b ≡ o → (t : Bool) → eqb mark left ≡ t → Walked table o marks found marks
+        go none e true d =
+            let same : getD marks b 0 ≡ left = sym m ∙ eqb-true mark left d in
+            let s : isSome (chain table (getD marks b 0) b) ≡ true = k .up-to-left b is-marked (omega arith) in
+            absurd (false≢true (sym (ap isSome e) ∙ (rw same at s)))
+        go none e false d =
+            let f : found ≡ broken = q ∙ rw d in
+            rw f (walked-broken marks marks refl)
+        go (some bs) e false d =
+            absurd (eqb-false mark left d (m ∙ one-length (getD marks b 0) left b bs (k .all-if-good (ap isSome e) .each b is-marked) e))
+        go (some bs) e true d =
+            let meets : anyOf (isMarked marks) bs ≡ true = rw (chain-head table left b bs e, is-marked) in record {
+              answers = q ∙ rw (d, meets);
+              lengths = λ s. k .all-if-good (ap isSome e);
+              marked = λ cs f a. let z : cs ≡ bs = cc in absurd (false≢true (sym a ∙ ap (anyOf (isMarked marks)) z ∙ meets));
+            }
+
+    -- the block is not marked, and gets its mark
+    module _ (some-left : left ≡ 0 → ⊥) (below : b < 200) (new : getD marks b 0 ≡ 0) where
+      long : b < length marks
+      long = rw (k .many) below
+
+      set-many : length (set marks b left) ≡ 200
+      set-many = length-set marks b left ∙ k .many
+
+      unmarked : isMarked marks b ≡ false
+      unfolding isMarked
+      unmarked = rw new
+
+      set-lengths : isSome (chain table left b) ≡ true → Lengths table (set marks b left)
+      set-lengths s = record { long = set-many; each = set-each marks b left long (λ x m. isSome (chain table m x) ≡ true) s (k .all-if-good s .each) }
+
+      pub walked-last : {found : ℕ} → chain table left b ≡ cond (eqb (left - 1) 0) (some (b ∷ [])) none
+          → found ≡ cond (eqb left 1) (outcome false) broken → Walked table (chain table left b) marks found (set marks b left)
+      walked-last {found} e q = go (eqb left 1) refl
+        where
+          go : (t : Bool) → eqb left 1 ≡ t → Walked table (chain table left b) marks found (set marks b left)
+          go true d =
+              let f : chain table left b ≡ some (b ∷ []) = e ∙ rw (eq-eqb (left - 1) 0 (omega (arith, eqb-true left 1 d))) in record {
+                answers = q ∙ rw (d, f, unmarked);
+                lengths = set-lengths;
+                marked = λ bs g a x. let z : bs ≡ b ∷ [] = cc in marked-set marks b left long some-left x ∙ rw (z, or-false);
+              }
+          go false d =
+              let f = ne-eqb (left - 1) 0 (λ z. omega (arith, some-left, eqb-false left 1 d)) in
+              let g : found ≡ broken = q ∙ rw d in
+              rw g (walked-broken marks (set marks b left) (e ∙ rw f))
+
+      module _ (n : ℕ) (e : chain table left b ≡ Option·map (λ (blocks : List ℕ). b ∷ blocks) (chain table (left - 1) n)) where
+        pub walkable-next : Walkable table (set marks b left) (left - 1) n
+        walkable-next = record {
+          many = set-many;
+          up-to-left = set-each marks b left long (λ x m. m ≤ left - 1 → isSome (chain table m x) ≡ true)
+              (λ h. absurd (omega (arith, some-left)))
+              (λ x m h. k .up-to-left x m (omega arith));
+          all-if-good = λ s. set-lengths (ap isSome e ∙ maps (chain table (left - 1) n) ∙ s);
+        }
+          where
+            maps : (o : Option (List ℕ)) → isSome (Option·map (λ (blocks : List ℕ). b ∷ blocks) o) ≡ isSome o
+            maps none = refl
+            maps (some bs) = refl
+
+        pub walked-next : {found : ℕ} {marks′ : List ℕ} → Walked table (chain table (left - 1) n) (set marks b left) found marks′
+            → Walked table (chain table left b) marks found marks′
+        walked-next {found} {marks′} w = go (chain table (left - 1) n) refl
+          where
+            go : (o : Option (List ℕ)) → chain table (left - 1) n ≡ o → Walked table (chain table left b) marks found marks′
+            go none f =
+                let g : found ≡ broken = w .answers ∙ rw f in
+                rw g (walked-broken marks marks′ (e ∙ rw f))
+            go (some rest) f =
+                let whole : chain table left b ≡ some (b ∷ rest) = e ∙ rw f in
+                let same = any-same (isMarked (set marks b left)) (isMarked marks) rest (others (chain-distinct table left b (b ∷ rest) whole .0)) in record {
+                  answers = w .answers ∙ rw (f, whole, same, unmarked);
+                  lengths = λ s. w .lengths (ap isSome f);
+                  marked = λ bs g a x.
+                      let z : bs ≡ b ∷ rest = cc in
+                      let a′ : anyOf (isMarked (set marks b left)) rest ≡ false = same ∙ or-false-right (isMarked marks b) _ (rw z at a) in
+                      w .marked rest f a′ x ∙ rw (z, marked-set marks b left long some-left x) (swap (eqb b x) (has x rest) (isMarked marks x));
+                }
+              where
+                others : has b rest ≡ false → (x : ℕ) → has x rest ≡ true → isMarked (set marks b left) x ≡ isMarked marks x
+                others d x h = marked-set marks b left long some-left x ∙ rw (apart (eqb b x) refl)
+                  where
+                    apart : (t : Bool) → eqb b x ≡ t → t ≡ false
+                    apart false p = refl
+                    apart true p =
+                        let z : b ≡ x = eqb-true b x p in
+                        absurd (false≢true (sym d ∙ (rw (← z) at h)))
+
+                swap : (s t u : Bool) → (t || (s || u)) ≡ ((s || t) || u)
+                swap true true u = refl
+                swap true false u = refl
+                swap false t u = refl
 
 -- ---- the walk along the file of a used entry
 
 module _ {entry entry′ : List ℕ} (e : entry′ ≡ entry) where
-  pub first-below : (b : ℕ) → isUsed entry ≡ true → b ≡ firstBlock entry′ → wrongEntry entry ≡ false → b < 200
-  first-below b u p r = rw (p, e) (right-entry entry u r .0)
+  pub entry-walkable : (b n : ℕ) → isUsed entry ≡ true → b ≡ firstBlock entry′ → n ≡ size entry′ → wrongEntry entry ≡ false → (b < 200) × (n ≤ 200)
+  entry-walkable b n u p q r = rw (p, q, e) (right-entry entry u r .0, right-entry entry u r .2)
 
   pub walk-used : (table marks : List ℕ) {b n : ℕ} {found : ℕ} {marks′ : List ℕ} → b ≡ firstBlock entry′ → n ≡ size entry′
-      → Walked (chain table n b) marks false found marks′ → Walked (chainOf table entry) marks false found marks′
+      → Walked table (chain table n b) marks found marks′ → Walked table (chainOf table entry) marks found marks′
   unfolding chainOf
   walk-used table marks p k w = rw (← e, ← p, ← k) w
 

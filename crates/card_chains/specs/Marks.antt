@@ -1,35 +1,32 @@
 -- Marks of user blocks, and what a walk along a chain finds in them.
 -- Assumes nothing.
-use Prim.Native.Nat.{ℕ, _<_}
+use Prim.Native.Nat.{ℕ, _≤_, _<_}
 use mathlib.Core.Path.{_≡_}
 use mathlib.Core.Bool.{Bool, true, false, not, cond, _||_}
-use mathlib.Core.List.{List, [], _∷_}
+use mathlib.Core.List.{List}
 use mathlib.Core.Option.{Option, none, some}
 use lib.Dec.{eqb}
-use lib.ListN.{getD, set, replicate}
+use lib.ListN.{length, getD, replicate}
+use Rattle.words.specs.Lists.{anyOf, has, isSome}
 use Rattle.verdicts.specs.declared.Verdict.{Verdict}
 use Rattle.verdicts.specs.Rows.{unlessRefused}
-use Rattle.card_model.specs.Files.{chain, filesBefore, chainRow, sharingRow}
+use Rattle.card_model.specs.Files.{chain, chainRow, sharingRow}
 
--- One number for each user block, not 0 where it is marked.
+-- One number for each user block: 0 where it isn't marked, and else how many blocks of its chain are left there, itself included.
 unfoldable pub noMarks : List ℕ
 noMarks = replicate 200 0
 
 unfoldable pub isMarked : List ℕ → ℕ → Bool
 isMarked marks b = not (eqb (getD marks b 0) 0)
 
-unfoldable pub markAll : List ℕ → List ℕ → List ℕ
-markAll [] marks = marks
-markAll (b ∷ blocks) marks = markAll blocks (set marks b 1)
+-- Each mark is the length of the chain from its block.
+pub record Lengths (table marks : List ℕ) : Type 0 where
+  pub long : length marks ≡ 200
+  pub each : (b : ℕ) → isMarked marks b ≡ true → isSome (chain table (getD marks b 0) b) ≡ true
 
--- Whether one of the blocks is marked when it is met, each being marked then.
-unfoldable pub metMark : List ℕ → List ℕ → Bool
-metMark [] marks = false
-metMark (b ∷ blocks) marks = isMarked marks b || metMark blocks (set marks b 1)
-
--- The marks of the files of the entries before i.
-unfoldable pub fileMarks : List ℕ → List (List ℕ) → ℕ → List ℕ
-fileMarks table directory i = markAll (filesBefore table directory i) noMarks
+-- The marked blocks are these.
+pub record Marking (blocks marks : List ℕ) : Type 0 where
+  pub exactly : (b : ℕ) → isMarked marks b ≡ has b blocks
 
 -- Rows 27 and 28.
 abbrev pub chainRows : List ℕ → List (List ℕ) → Verdict
@@ -50,15 +47,24 @@ isBroken found = eqb found broken
 abbrev pub isShared : ℕ → Bool
 isShared found = eqb found (outcome true)
 
--- What a walk answers for a chain, or for none; `shared` tells whether a marked block was met before it.
-abbrev pub answer : Option (List ℕ) → List ℕ → Bool → ℕ
-answer none marks shared = broken
-answer (some blocks) marks shared = outcome (shared || metMark blocks marks)
+-- What the marks are where a walk has come to block b with so many blocks left. Those above `left` may be of this walk: they are
+-- lengths of chains if the rest of the walk is one.
+pub record Walkable (table marks : List ℕ) (left b : ℕ) : Type 0 where
+  pub many : length marks ≡ 200
+  pub up-to-left : (x : ℕ) → isMarked marks x ≡ true → getD marks x 0 ≤ left → isSome (chain table (getD marks x 0) x) ≡ true
+  pub all-if-good : isSome (chain table left b) ≡ true → Lengths table marks
 
--- A walk's answer, and the marks that it leaves: those of its blocks too, where the chain is there.
-pub record Walked (blocks : Option (List ℕ)) (marks : List ℕ) (shared : Bool) (found : ℕ) (marks′ : List ℕ) : Type 0 where
-  pub answers : found ≡ answer blocks marks shared
-  pub marked : (bs : List ℕ) → blocks ≡ some bs → marks′ ≡ markAll bs marks
+-- What a walk answers for a chain, or for none.
+abbrev pub answer : Option (List ℕ) → List ℕ → ℕ
+answer none marks = broken
+answer (some blocks) marks = outcome (anyOf (isMarked marks) blocks)
+
+-- A walk's answer, and the marks that it leaves where the chain is there: where no block of it was marked before, those of its
+-- blocks too.
+pub record Walked (table : List ℕ) (blocks : Option (List ℕ)) (marks : List ℕ) (found : ℕ) (marks′ : List ℕ) : Type 0 where
+  pub answers : found ≡ answer blocks marks
+  pub lengths : isSome blocks ≡ true → Lengths table marks′
+  pub marked : (bs : List ℕ) → blocks ≡ some bs → anyOf (isMarked marks) bs ≡ false → (b : ℕ) → isMarked marks′ b ≡ (has b bs || isMarked marks b)
 
 -- r is the block that so many steps from b lead to: on a chain that is longer than that, the chain's block at this index.
 abbrev pub IsAfter : List ℕ → ℕ → ℕ → ℕ → Type 0

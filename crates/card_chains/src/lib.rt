@@ -1,5 +1,5 @@
-// The chains of a card's files: refusals 27 and 28, and the orphans. Each chain is walked once, tested and marked in the same
-// step.
+// The chains of a card's files: refusals 27 and 28, and the orphans. No block is walked twice: it is tested and marked in the
+// same step, and a walk that meets a mark knows the rest.
 mod links;
 pub mod walking;
 
@@ -27,19 +27,20 @@ ghost use lib.ListN.{length};
 ghost use Rattle.verdicts.specs.Rows.{accepted};
 ghost use Rattle.card_model.specs.Layout.{tableOf, directoryOf};
 ghost use Rattle.card_model.specs.Entries.{isUsed, wrongEntry};
-ghost use Rattle.card_model.specs.Files.{chainOf, isOrphan, orphans};
+ghost use Rattle.card_model.specs.Files.{chainOf, filesBefore, isOrphan, orphans};
 ghost use Rattle.card_model.specs.Sound.{entryOn};
 ghost use Rattle.card_directory.specs.Listed.{Listed};
-ghost use Rattle.card_chains.specs.Marks.{noMarks, fileMarks, chainRows, Walked, isShared};
+ghost use Rattle.card_chains.specs.Marks.{noMarks, Lengths, Marking, chainRows, Walked, isShared};
 
 // The walk along the file of entry i, a used one.
 fn walk_file(card: &[u8], table: &[u16; 256], marks: &mut [u8; 200], i: usize) -> u8
     requires { ⌜ (length (now card) ≡ 131072) × (i < 208) ⌝ }
     requires { ⌜ (isUsed (entryOn (now card) i) ≡ true) × (wrongEntry (entryOn (now card) i) ≡ false) ⌝ }
-    ensures { λ r. ⌜ Walked (chainOf (now (table .entry)) (entryOn (now (card .entry)) i)) (now (marks .entry)) false r (now (marks .exit)) ⌝ }
+    requires { ⌜ Lengths (now table) (now marks) ⌝ }
+    ensures { λ r. ⌜ Walked (now (table .entry)) (chainOf (now (table .entry)) (entryOn (now (card .entry)) i)) (now (marks .entry)) r (now (marks .exit)) ⌝ }
 {
     let entry = entry_at(card, i);
-    walk(table, marks, first_block(entry), size(entry), false)
+    walk(table, marks, first_block(entry), size(entry))
 }
 
 // The first entry that shares a block, 208 for none: the one remembered, or else entry i.
@@ -62,7 +63,7 @@ pub fn walk_files(card: &[u8], used: &[u8; 208], count: usize, marks: &mut [u8; 
     requires { ⌜ Listed (directoryOf (now card)) 208 (now used) count ⌝ }
     requires { ⌜ ((i : ℕ) → i < 208 → wrongEntry (entryOn (now card) i) ≡ false) ⌝ }
     ensures { λ r. ⌜ r ≡ chainRows (tableOf (now (card .entry))) (directoryOf (now (card .entry))) ⌝ }
-    ensures { λ r. ⌜ (accepted r ≡ true → now (marks .exit) ≡ fileMarks (tableOf (now (card .entry))) (directoryOf (now (card .entry))) 208) ⌝ }
+    ensures { λ r. ⌜ (accepted r ≡ true → Marking (filesBefore (tableOf (now (card .entry))) (directoryOf (now (card .entry))) 208) (now (marks .exit))) ⌝ }
 {
     let table = read_table(card);
     let mut first: usize = 208;
@@ -86,7 +87,7 @@ pub fn walk_files(card: &[u8], used: &[u8; 208], count: usize, marks: &mut [u8; 
 // in any case, so that the count is compiled to steps of several blocks.
 fn orphan_at(card: &[u8], marks: &[u8; 200], b: usize) -> u8
     requires { ⌜ (length (now card) ≡ 131072) × (b < 200) ⌝ }
-    requires { ⌜ now marks ≡ fileMarks (tableOf (now card)) (directoryOf (now card)) 208 ⌝ }
+    requires { ⌜ Marking (filesBefore (tableOf (now card)) (directoryOf (now card)) 208) (now marks) ⌝ }
     ensures { λ r. ⌜ (r ≡ cond (isOrphan (tableOf (now (card .entry))) (directoryOf (now (card .entry))) b) 1 0) × (r ≤ 1) ⌝ }
 {
     let unused = free_or_damaged(classify(fat_entry(card, b)));
@@ -99,7 +100,7 @@ fn orphan_at(card: &[u8], marks: &[u8; 200], b: usize) -> u8
 // How many user blocks are in use but in no file.
 pub fn count_orphans(card: &[u8], marks: &[u8; 200]) -> usize
     requires { ⌜ length (now card) ≡ 131072 ⌝ }
-    requires { ⌜ now marks ≡ fileMarks (tableOf (now card)) (directoryOf (now card)) 208 ⌝ }
+    requires { ⌜ Marking (filesBefore (tableOf (now card)) (directoryOf (now card)) 208) (now marks) ⌝ }
     ensures { λ r. ⌜ r ≡ orphans (tableOf (now (card .entry))) (directoryOf (now (card .entry))) ⌝ }
 {
     let mut count: u8 = 0;

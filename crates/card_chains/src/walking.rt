@@ -4,12 +4,11 @@ use card_model::Link;
 use card_table::read_table;
 ghost use mathlib.Core.Path.{_≡_};
 ghost use mathlib.Core.Bool.{cond};
-ghost use Prim.Native.Nat.{_<_};
-ghost use lib.Dec.{eqb};
+ghost use Prim.Native.Nat.{_≤_, _<_};
 ghost use lib.ListN.{length};
 ghost use Rattle.card_model.specs.Layout.{tableOf};
 ghost use Rattle.card_model.specs.Files.{chain};
-ghost use Rattle.card_chains.specs.Marks.{outcome, broken, Walked, IsAfter};
+ghost use Rattle.card_chains.specs.Marks.{broken, Walkable, Walked, IsAfter};
 
 // What the walk along a chain found: no marked block, one that was marked before, or a bad chain. These are plain numbers because
 // an enum would come back through memory, and then the compiler doesn't make a loop of the recursion.
@@ -19,39 +18,37 @@ pub(crate) const SHARED: u8 = 1;
 
 pub(crate) const BROKEN: u8 = 2;
 
-// At a last block.
-fn ended(left: usize, shared: bool) -> u8
-    ensures { λ r. ⌜ r ≡ cond (eqb left 1) (outcome shared) broken ⌝ }
+// What a walk answers where it ends.
+fn ended(good: bool, found: u8) -> u8
+    ensures { λ r. ⌜ r ≡ cond good found broken ⌝ }
 {
-    if left != 1 {
-        return BROKEN;
+    if good {
+        return found;
     }
-    if shared {
-        return SHARED;
-    }
-    APART
+    BROKEN
 }
 
 // From `block` on, with `left` blocks left: the first entries each name the next block, and the last one is FFFA. Each block is
-// marked where it is tested; `shared` tells whether one so far was marked already.
-pub(crate) fn walk(
-    table: &[u16; 256],
-    marks: &mut [u8; 200],
-    block: usize,
-    left: usize,
-    shared: bool,
-) -> u8
-    requires { ⌜ block < 200 ⌝ }
-    ensures { λ r. ⌜ Walked (chain (now (table .entry)) left block) (now (marks .entry)) shared r (now (marks .exit)) ⌝ }
+// marked with what is left where it is tested, and a walk ends where it meets a mark, so no block is tested twice. If an earlier
+// walk made the mark, the chain from there is good, and no chain has two lengths. If this one did, fewer are left now, and it never
+// ends.
+pub(crate) fn walk(table: &[u16; 256], marks: &mut [u8; 200], block: usize, left: usize) -> u8
+    requires { ⌜ (block < 200) × (left ≤ 200) ⌝ }
+    requires { ⌜ Walkable (now table) (now marks) left block ⌝ }
+    ensures { λ r. ⌜ Walked (now (table .entry)) (chain (now (table .entry)) left block) (now (marks .entry)) r (now (marks .exit)) ⌝ }
 {
     if left == 0 {
         return BROKEN; // no block is left
     }
-    let met = shared | (marks[block] != 0);
-    marks[block] = 1;
+    let mark = marks[block];
+    let own = left as u8;
+    if mark != 0 {
+        return ended(mark == own, SHARED);
+    }
+    marks[block] = own;
     match link_in(table, block) {
-        Link::Last => ended(left, met),
-        Link::Next(n) => walk(table, marks, n, left - 1, met),
+        Link::Last => ended(left == 1, APART),
+        Link::Next(n) => walk(table, marks, n, left - 1),
         Link::Free => BROKEN,
         Link::Damaged => BROKEN,
         Link::Bad => BROKEN,

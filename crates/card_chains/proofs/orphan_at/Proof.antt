@@ -22,14 +22,14 @@ returns c =
     let u = c .before .before in
     let f = u .before .before in
     let a = f .before .before in
-    (rw (orphan-is _ _ _ (a .pre .1) (a .pre .0 .1) _ (f .fat-entry .ensures .0) _ (u .before .classify .ensures) _ (u .free-or-damaged .ensures) ∙ c .if1 .taken), search needs)
+    (rw (orphan-is _ _ _ (a .pre .1) _ (f .fat-entry .ensures .0) _ (u .before .classify .ensures) _ (u .free-or-damaged .ensures) ∙ c .if1 .taken), search needs)
 
 returns-2 : tie.Need-returns-2
 returns-2 c =
     let u = c .before .before in
     let f = u .before .before in
     let a = f .before .before in
-    (rw (orphan-is _ _ _ (a .pre .1) (a .pre .0 .1) _ (f .fat-entry .ensures .0) _ (u .before .classify .ensures) _ (u .free-or-damaged .ensures) ∙ c .if1 .left), search needs)
+    (rw (orphan-is _ _ _ (a .pre .1) _ (f .fat-entry .ensures .0) _ (u .before .classify .ensures) _ (u .free-or-damaged .ensures) ∙ c .if1 .left), search needs)
 
 pub orphan-at-spec : {M : Type 1} → statement M
 orphan-at-spec =

@@ -1,5 +1,5 @@
 -- `walk_file` meets its contract. Assumes nothing.
-use Rattle.card_chains.proofs.WalkLaws.{first-below, walk-used}
+use Rattle.card_chains.proofs.WalkLaws.{entry-walkable, walkable, walk-used}
 use borrow.Author.Needs.{needs}
 use Rattle.card_chains.proofs.walk_file.Statement.{statement}
 use Rattle.card_chains.proofs.walk_file.Tie as tie
@@ -18,7 +18,8 @@ walk-requires c κs =
     let f = c .before in
     let n = f .before .before in
     let a = n .before .before in
-    first-below (n .entry-at .ensures .0) _ (a .pre .1 .0) (f .first-block .ensures) (a .pre .1 .1)
+    let u = a .pre .1 .0 in
+    (entry-walkable (n .entry-at .ensures .0) _ _ (u .0) (f .first-block .ensures) (c .size .ensures) (u .1), walkable _ _ _ _ (a .pre .1 .1))
 
 returns : tie.Need-returns
 returns c =

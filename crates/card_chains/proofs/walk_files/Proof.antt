@@ -1,5 +1,5 @@
--- `walk_files` meets its contract. The loop's invariant: the marks are those of the files that were passed, no chain of theirs is
--- bad, and the first of them that shares a block is remembered. Assumes nothing.
+-- `walk_files` meets its contract. The loop's invariant: the marks are lengths of chains, no chain of the files that were passed is
+-- bad, the first of them that shares a block is remembered, and until there is one their blocks are marked. Assumes nothing.
 use Prim.Native.Nat.{ℕ, _+_, _-_, _≤_, _<_}
 use mathlib.Core.Path.{_≡_, refl, sym, ap, _∙_}
 use mathlib.Core.Bool.{Bool, false≢true}
@@ -11,12 +11,12 @@ use Rattle.verdicts.specs.declared.Verdict.{Verdict}
 use Rattle.verdicts.specs.Rows.{done, refusedAt, accepted}
 use Rattle.card_model.specs.Layout.{tableOf, directoryOf}
 use Rattle.card_model.specs.Entries.{entryAt}
-use Rattle.card_model.specs.Files.{badChain, chainRow, sharesBlock, sharingRow}
+use Rattle.card_model.specs.Files.{badChain, chainRow, filesBefore, sharesBlock, sharingRow}
 use Rattle.card_directory.specs.Listed.{reached}
 use Rattle.card_directory.proofs.ListedLaws.{reached-next, listed-below, listed-used, stays, stays-to-end, firstFrom, found-here, found-later, found-none}
-use Rattle.card_chains.specs.Marks.{fileMarks, chainRows}
-use Rattle.card_chains.proofs.MarkLaws.{marks-start, marks-stay, unused-bad, unused-shares, walk-broken, walk-marks, walk-shares}
-use Rattle.card_chains.proofs.FirstLaws.{orEnd, firstBefore, before-same, first-next, first-some, first-none}
+use Rattle.card_chains.specs.Marks.{Lengths, Marking, chainRows}
+use Rattle.card_chains.proofs.MarkLaws.{lengths-start, marking-start, files-stay, unused-bad, unused-shares, walk-broken, walk-lengths, walk-shares, walk-marking}
+use Rattle.card_chains.proofs.FirstLaws.{orEnd, firstBefore, before-same, first-next, still-none, first-some, first-none}
 use borrow.Author.Needs.{needs}
 use borrow.Author.Tests.{eq-eqb, ne-eqb}
 use Rattle.card_chains.proofs.walk_files.Statement.{statement}
@@ -28,13 +28,13 @@ bad card i = badChain (tableOf card) (entryAt (directoryOf card) i)
 abbrev shares : List ℕ → ℕ → Bool
 shares card = sharesBlock (tableOf card) (directoryOf card)
 
-abbrev marked : List ℕ → ℕ → List ℕ
-marked card = fileMarks (tableOf card) (directoryOf card)
+abbrev files : List ℕ → ℕ → List ℕ
+files card = filesBefore (tableOf card) (directoryOf card)
 
 abbrev Inv-loop : tie.InvT-loop
 Inv-loop card used count marks₀ table first₀ j₀ marks first j =
-    (j ≤ count) × (marks ≡ marked card (reached used j)) × (firstFrom (bad card) 0 ≡ firstFrom (bad card) (reached used j))
-    × (first ≡ orEnd 208 (firstBefore (shares card) (reached used j)))
+    (j ≤ count) × Lengths (tableOf card) marks × (firstFrom (bad card) 0 ≡ firstFrom (bad card) (reached used j))
+    × (first ≡ orEnd 208 (firstBefore (shares card) (reached used j))) × (208 ≤ first → Marking (files card (reached used j)) marks)
 
 abbrev μ-loop : tie.MeasureT-loop
 μ-loop card used count marks₀ table first₀ j₀ marks first j = count - j
@@ -66,7 +66,9 @@ read-table-requires : tie.Need-read-table-requires Inv-loop μ-loop
 read-table-requires c κs = search needs
 
 loop-holds : tie.Need-loop-holds Inv-loop μ-loop
-loop-holds c = (omega arith, c .before .before .pre .0 .1 ∙ sym (marks-start _ _), refl, start _)
+loop-holds c =
+    let none = c .before .before .pre .0 .1 in
+    (omega arith, rw none (lengths-start _), refl, start _, λ h. rw none (marking-start _ _))
 
 listed-at-requires : tie.Need-listed-at-requires Inv-loop μ-loop
 listed-at-requires c κs =
@@ -81,7 +83,7 @@ walk-file-requires c κs =
     let list = a .pre .1 .0 in
     let e = n .listed-at .ensures in
     let b = listed-below list (l .loop .j) _ e (omega arith) in
-    ((a .pre .0 .0, b), (listed-used list (l .loop .j) _ e (omega arith), a .pre .1 .1 _ b))
+    ((a .pre .0 .0, b), ((listed-used list (l .loop .j) _ e (omega arith), a .pre .1 .1 _ b), rw (l .before .read-table .ensures) (l .loop .inv .1)))
 
 refused-at-requires : tie.Need-refused-at-requires Inv-loop μ-loop
 refused-at-requires c κs = search needs
@@ -101,8 +103,7 @@ returns c =
     let e = n .listed-at .ensures in
     let h : j < a .args .count = omega arith in
     let walked = rw (r .read-table .ensures) at (w .walk-file .ensures) in
-    let m = l .loop .inv .1 ∙ stays _ (marked card) (marks-stay _ _) list j _ e h in
-    let b = sym (walk-broken _ _ _ (listed-used list j _ e h) m walked) ∙ eq-eqb _ _ (d .if1 .taken) in
+    let b = sym (walk-broken _ _ _ (listed-used list j _ e h) walked) ∙ eq-eqb _ _ (d .if1 .taken) in
     (v ∙ chain-refused card _ (l .loop .inv .2 ∙ found-here _ (bad card) (unused-bad _ _) list j _ e h b), λ e. absurd (false≢true (sym (ap accepted v) ∙ e)))
 
 remember-requires : tie.Need-remember-requires Inv-loop μ-loop
@@ -130,16 +131,20 @@ loop-again c =
     let b = listed-below list j _ e h in
     let u = listed-used list j _ e h in
     let walked = rw (r .read-table .ensures) at (w .walk-file .ensures) in
-    let m = l .loop .inv .1 ∙ stays _ (marked card) (marks-stay _ _) list j _ e h in
+    let same = stays _ (files card) (files-stay _ _) list j _ e h in
+    let m = rw same at (l .loop .inv .4) in
     let sound = ne-eqb _ _ (c .before .if1 .left) in
-    let good = sym (walk-broken _ _ _ u m walked) ∙ sound in
+    let good = sym (walk-broken _ _ _ u walked) ∙ sound in
     let first = l .loop .inv .3 ∙ ap (orEnd 208) (stays _ (firstBefore (shares card)) (λ k q. before-same _ k (unused-shares _ _ k q)) list j _ e h) in
     let on = reached-next _ j _ e in (
       below,
-      walk-marks _ _ _ u m walked sound ∙ ap (marked card) on,
+      walk-lengths _ _ _ u walked sound,
       l .loop .inv .2 ∙ found-later _ (bad card) (unused-bad _ _) list j _ e h good,
-      first-next (shares card) _ (l .loop .first) _ _ _ b first (walk-shares _ _ _ u m walked sound (a .pre .1 .1 _ b)) (c .remember .ensures)
+      first-next (shares card) _ (l .loop .first) _ _ _ b (c .remember .ensures) first (λ n. walk-shares _ _ _ u walked sound (m n))
           ∙ ap (λ (k : ℕ). orEnd 208 (firstBefore (shares card) k)) on,
+      λ n.
+          let none = still-none (shares card) _ (l .loop .first) _ _ _ b (c .remember .ensures) n in
+          rw on at (walk-marking _ _ _ u walked sound (m (none .0)) (none .1)),
     )
 
 refused-at-requires-2 : tie.Need-refused-at-requires-2 Inv-loop μ-loop
@@ -171,7 +176,7 @@ returns-3 c =
     let z : j ≡ a .args .count = omega arith in
     let first = l .loop .inv .3 ∙ ap (orEnd 208) (stays-to-end _ (firstBefore (shares card)) (λ k q. before-same _ k (unused-shares _ _ k q)) list j z) in
     let sound = l .loop .inv .2 ∙ found-none _ (bad card) (unused-bad _ _) list j z in
-    (c .done .ensures ∙ neither-refused card sound (first-none (shares card) _ _ first (omega arith)), λ e. l .loop .inv .1 ∙ stays-to-end _ (marked card) (marks-stay _ _) list j z)
+    (c .done .ensures ∙ neither-refused card sound (first-none (shares card) _ _ first (omega arith)), λ e. rw (stays-to-end _ (files card) (files-stay _ _) list j z) at (l .loop .inv .4 (omega arith)))
 
 pub walk-files-spec : {M : Type 1} → statement M
 walk-files-spec =

@@ -1,10 +1,10 @@
 -- `walk` meets its contract, with the blocks left as its measure. Assumes nothing.
+use Prim.Native.Nat.{ℕ, _<_}
+use mathlib.Core.Path.{refl}
 use native.Mathlib.Omega.{arith}
 use Rattle.card_model.specs.Files.{chainStep}
-use Rattle.card_chains.specs.Marks.{isMarked}
-use Rattle.card_chains.proofs.WalkLaws.{step-below, chain-none, chain-step, walked-broken, walked-last, walked-next}
+use Rattle.card_chains.proofs.WalkLaws.{step-below, chain-none, chain-step, walked-broken, walked-met, walked-last, walkable-next, walked-next}
 use borrow.Author.Needs.{needs}
-use Prim.Native.Nat.{ℕ, _<_}
 use borrow.Fn.Kinds.{In}
 use borrow.Fn.PlainCycle.{Measures, is, falls, and}
 use Rattle.card_chains.proofs.walking.walk.Reads as walk
@@ -25,14 +25,24 @@ abbrev walk-below : ℕ → In 2 walk-kinds.ps
 walk-below t = and 2 walk-kinds.ps (falls 2 walk-kinds.ps _<_ μ-walk t) walk.Pre
 
 abbrev calls : ℕ → walk-lts.Claims
-calls t = (link-in-reads.Asked, link-in-reads.Learnt, ended-reads.Asked, ended-reads.Learnt, walk-below t, walk.Post)
+calls t = (ended-reads.Asked, ended-reads.Learnt, link-in-reads.Asked, link-in-reads.Learnt, walk-below t, walk.Post)
 
 module _ (t : ℕ) where
   returns : walk-lts.Need-returns (calls t) (walk-at t) walk.Post
   returns c = walked-broken _ _ _ (chain-none _ _ _ (c .if1 .taken))
 
-  element-copy-out-met : walk-lts.Need-element-copy-out-met (calls t) (walk-at t) walk.Post
-  element-copy-out-met c = search needs
+  element-copy-out-mark : walk-lts.Need-element-copy-out-mark (calls t) (walk-at t) walk.Post
+  element-copy-out-mark c = search needs
+
+  cast-own : walk-lts.Need-cast-own (calls t) (walk-at t) walk.Post
+  cast-own c = search needs
+
+  ended-requires : walk-lts.Need-ended-requires (calls t) (walk-at t) walk.Post
+  ended-requires c κs = search needs
+
+  returns-2 : walk-lts.Need-returns-2 (calls t) (walk-at t) walk.Post
+  returns-2 c =
+      walked-met _ _ _ _ (c .before .before .before .before .pre .1 .1) refl (c .before .if2 .taken) (c .ended .ensures)
 
   element-write-marks : walk-lts.Need-element-write-marks (calls t) (walk-at t) walk.Post
   element-write-marks c = search needs
@@ -43,8 +53,8 @@ module _ (t : ℕ) where
   enum-told : walk-lts.Need-enum-told (calls t) (walk-at t) walk.Post
   enum-told c = search needs
 
-  ended-requires : walk-lts.Need-ended-requires (calls t) (walk-at t) walk.Post
-  ended-requires c κs = search needs
+  ended-requires-2 : walk-lts.Need-ended-requires-2 (calls t) (walk-at t) walk.Post
+  ended-requires-2 c κs = search needs
 
   enum-known-n : walk-lts.Need-enum-known-n (calls t) (walk-at t) walk.Post
   enum-known-n c = search needs
@@ -53,9 +63,20 @@ module _ (t : ℕ) where
   sub-walk c = search needs
 
   walk-requires : walk-lts.Need-walk-requires (calls t) (walk-at t) walk.Post
+  unfolding chainStep
   walk-requires c κs =
       let n = c .before .before in
-      (omega arith, step-below _ _ _ (n .before .before .link-in .ensures) (n .n .given .1))
+      let l = n .before .before in
+      let i = l .before in
+      let d = i .before .before in
+      let s = d .before in
+      let step = chain-step _ _ _ (d .if1 .left) (l .link-in .ensures) (n .n .given .1) in (
+        omega arith,
+        (
+          (step-below _ _ _ (l .link-in .ensures) (n .n .given .1), omega (arith, s .pre .1 .0 .1)),
+          walkable-next _ _ _ _ (s .pre .1 .1) (d .if1 .left) (s .pre .1 .0 .0) (i .if2 .left) _ step,
+        ),
+      )
 
   enum-told-2 : walk-lts.Need-enum-told-2 (calls t) (walk-at t) walk.Post
   enum-told-2 c = search needs
@@ -66,54 +87,64 @@ module _ (t : ℕ) where
   enum-told-4 : walk-lts.Need-enum-told-4 (calls t) (walk-at t) walk.Post
   enum-told-4 c = search needs
 
-  returns-2 : walk-lts.Need-returns-2 (calls t) (walk-at t) walk.Post
-  unfolding chainStep isMarked
-  returns-2 c =
-      let l = c .before .before .before in
-      let some-left = l .before .before .if1 .left in
-      walked-last _ _ _ _ some-left (chain-step _ _ _ some-left (l .link-in .ensures) (c .before .enum-told .given .1)) (c .ended .ensures)
-
   returns-3 : walk-lts.Need-returns-3 (calls t) (walk-at t) walk.Post
-  unfolding chainStep isMarked
+  unfolding chainStep
   returns-3 c =
-      let n = c .before .before .before in
-      let l = n .before .before in
-      walked-next _ _ _ _ (chain-step _ _ _ (l .before .before .if1 .left) (l .link-in .ensures) (n .n .given .1)) (c .walk .ensures)
+      let l = c .before .before .before in
+      let i = l .before in
+      let d = i .before .before in
+      let s = d .before in
+      let step = chain-step _ _ _ (d .if1 .left) (l .link-in .ensures) (c .before .enum-told .given .1) in
+      walked-last _ _ _ _ (s .pre .1 .1) (d .if1 .left) (s .pre .1 .0 .0) (i .if2 .left) step (c .ended2 .ensures)
 
   returns-4 : walk-lts.Need-returns-4 (calls t) (walk-at t) walk.Post
   unfolding chainStep
   returns-4 c =
-      let l = c .before .before in
-      walked-broken _ _ _ (chain-step _ _ _ (l .before .before .if1 .left) (l .link-in .ensures) (c .enum-told2 .given .1))
+      let n = c .before .before .before in
+      let l = n .before .before in
+      let i = l .before in
+      let d = i .before .before in
+      let s = d .before in
+      let step = chain-step _ _ _ (d .if1 .left) (l .link-in .ensures) (n .n .given .1) in
+      walked-next _ _ _ _ (s .pre .1 .1) (d .if1 .left) (s .pre .1 .0 .0) (i .if2 .left) _ step (c .walk .ensures)
 
   returns-5 : walk-lts.Need-returns-5 (calls t) (walk-at t) walk.Post
   unfolding chainStep
   returns-5 c =
       let l = c .before .before in
-      walked-broken _ _ _ (chain-step _ _ _ (l .before .before .if1 .left) (l .link-in .ensures) (c .enum-told3 .given .1))
+      walked-broken _ _ _ (chain-step _ _ _ (l .before .before .before .if1 .left) (l .link-in .ensures) (c .enum-told2 .given .1))
 
   returns-6 : walk-lts.Need-returns-6 (calls t) (walk-at t) walk.Post
   unfolding chainStep
   returns-6 c =
       let l = c .before .before in
-      walked-broken _ _ _ (chain-step _ _ _ (l .before .before .if1 .left) (l .link-in .ensures) (c .enum-told4 .given .1))
+      walked-broken _ _ _ (chain-step _ _ _ (l .before .before .before .if1 .left) (l .link-in .ensures) (c .enum-told3 .given .1))
+
+  returns-7 : walk-lts.Need-returns-7 (calls t) (walk-at t) walk.Post
+  unfolding chainStep
+  returns-7 c =
+      let l = c .before .before in
+      walked-broken _ _ _ (chain-step _ _ _ (l .before .before .before .if1 .left) (l .link-in .ensures) (c .enum-told4 .given .1))
 
 pub +walk-spec : {M : Type 1} → statement M
 +walk-spec = close μ-walk λ t. walk-lts.spec (calls t) (walk-at t) walk.Post
     (returns t)
-    (element-copy-out-met t)
+    (element-copy-out-mark t)
+    (cast-own t)
+    (ended-requires t)
+    (returns-2 t)
     (element-write-marks t)
     (link-in-requires t)
     (enum-told t)
-    (ended-requires t)
+    (ended-requires-2 t)
     (enum-known-n t)
     (sub-walk t)
     (walk-requires t)
     (enum-told-2 t)
     (enum-told-3 t)
     (enum-told-4 t)
-    (returns-2 t)
     (returns-3 t)
     (returns-4 t)
     (returns-5 t)
     (returns-6 t)
+    (returns-7 t)

@@ -1,16 +1,12 @@
 -- `ended` meets its contract. Assumes nothing.
-use borrow.Author.Tests.{eq-eqb, ne-eqb}
 use Rattle.card_chains.proofs.walking.ended.Statement.{statement}
 use Rattle.card_chains.proofs.walking.ended.Tie as tie
 
 returns : tie.Need-returns
-returns c = rw (ne-eqb _ _ (c .if1 .taken))
+returns c = rw (c .if1 .taken)
 
 returns-2 : tie.Need-returns-2
-returns-2 c = rw (eq-eqb _ _ (c .before .if1 .left), c .if2 .taken)
-
-returns-3 : tie.Need-returns-3
-returns-3 c = rw (eq-eqb _ _ (c .before .if1 .left), c .if2 .left)
+returns-2 c = rw (c .if1 .left)
 
 pub ended-spec : {M : Type 1} → statement M
-ended-spec = tie.close (tie.spec returns returns-2 returns-3)
+ended-spec = tie.close (tie.spec returns returns-2)
