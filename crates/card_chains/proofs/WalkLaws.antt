@@ -16,7 +16,7 @@ use Rattle.card_model.specs.Table.{linkAt}
 use Rattle.card_model.specs.Entries.{firstBlock, size, isUsed, wrongEntry}
 use Rattle.card_model.specs.Files.{chainStep, chain, chainOf}
 use Rattle.card_model.proofs.TableLaws.{next-below}
-use Rattle.card_model.proofs.ChainLaws.{Links, ends, goes, chain-links, chain-head, chain-distinct}
+use Rattle.card_model.proofs.ChainLaws.{Links, ends, goes, links-same, chain-links, chain-head, chain-distinct}
 use Rattle.card_model.proofs.EntryLaws.{right-entry}
 use Rattle.card_chains.specs.Marks.{isMarked, Lengths, outcome, broken, Walkable, Walked, IsAfter}
 use Rattle.card_chains.proofs.MarkLaws.{marked-set, set-each, any-same}
@@ -41,20 +41,12 @@ chain-step table (suc left) b h q told =
 
 module _ (table : List ℕ) where
   -- where a chain starts tells how long it is
-  links-same : {m n b : ℕ} {bs cs : List ℕ} → Links table m b bs → Links table n b cs → m ≡ n
-  links-same (ends q) (ends r) = refl
-  links-same (ends q) (goes r l) = let z : _≡_ {A = ℕ} 0 1 = cc in absurd (omega arith)
-  links-same (goes q l) (ends r) = let z : _≡_ {A = ℕ} 0 1 = cc in absurd (omega arith)
-  links-same (goes {n = i} q l) (goes {left = k} {n = j} {bs = cs} r m) =
-      let e : j ≡ i = cc in
-      ap suc (links-same l (subst (λ (x : ℕ). Links table k x cs) e m))
-
   one-length : (m n b : ℕ) (cs : List ℕ) → isSome (chain table m b) ≡ true → chain table n b ≡ some cs → m ≡ n
   one-length m n b cs p f = go (chain table m b) refl p
     where
       go : (o : Option (List ℕ)) → chain table m b ≡ o → isSome o ≡ true → m ≡ n
       go none e p = absurd (false≢true p)
-      go (some bs) e p = links-same (chain-links table m b bs e) (chain-links table n b cs f)
+      go (some bs) e p = links-same table (chain-links table m b bs e) (chain-links table n b cs f)
 
   pub walked-broken : {o : Option (List ℕ)} (marks marks′ : List ℕ) → o ≡ none → Walked table o marks broken marks′
   walked-broken marks marks′ e = record {

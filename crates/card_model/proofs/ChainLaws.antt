@@ -126,7 +126,7 @@ module _ (table : List ℕ) where
   links-below h (goes q l) = (h, links-below (next-below _ _ q) l)
 
   -- where a chain starts tells how long it is
-  links-same : {m n b : ℕ} {bs cs : List ℕ} → Links table m b bs → Links table n b cs → m ≡ n
+  pub links-same : {m n b : ℕ} {bs cs : List ℕ} → Links table m b bs → Links table n b cs → m ≡ n
   links-same (ends q) (ends r) = refl
   links-same (ends q) (goes r l) = let z : _≡_ {A = ℕ} 0 1 = cc in absurd (omega arith)
   links-same (goes q l) (ends r) = let z : _≡_ {A = ℕ} 0 1 = cc in absurd (omega arith)
