@@ -1,8 +1,8 @@
 -- The list of the used entries: how it grows, and what a walk along it finds. Assumes nothing.
 use Prim.Native.Nat.{ℕ, zero, suc, _+_, _-_, _≤_, _<_}
 use mathlib.Core.Path.{_≡_, refl, sym, ap, _∙_}
-use mathlib.Core.Bool.{Bool, true, false, _||_, or-false}
-use mathlib.Core.List.{List, [], _∷_}
+use mathlib.Core.Bool.{Bool, true, false}
+use mathlib.Core.List.{List}
 use mathlib.Core.Option.{Option, none, some}
 use native.Mathlib.Omega.{arith}
 use native.Mathlib.Decide.{ℕ-discrete}
@@ -11,11 +11,8 @@ use lib.Dec.{ltb}
 use lib.ListN.{length, getD, set, length-set}
 use lib.Seq.{getD-set-same, getD-set-other}
 use borrow.Author.Tests.{ltb-true, ltb-false}
-use Rattle.words.specs.Lists.{anyOf, numbersFrom}
 use Rattle.words.specs.Search.{lowest}
 use Rattle.words.proofs.LoopLaws.{lowest-here, lowest-next, lowest-end}
-use Rattle.words.proofs.ListLaws.{numbers-snoc}
-use Rattle.words.proofs.JoinLaws.{any-append}
 use Rattle.card_model.specs.Entries.{isUsed, entryAt}
 use Rattle.card_directory.specs.Runs.{Passed}
 use Rattle.card_directory.specs.Listed.{NextUsed, reached, Listed}
@@ -137,11 +134,6 @@ first-same p k q = go (ltb k 208) refl
         let h = ltb-false k 208 b in
         lowest-end p (suc k) 208 (omega arith) ∙ sym (lowest-end p k 208 h)
 
-any-snoc : (p : ℕ → Bool) (n : ℕ) → anyOf p (numbersFrom 0 (suc n)) ≡ (anyOf p (numbersFrom 0 n) || p n)
-any-snoc p n =
-    let z : 0 + n ≡ n = omega arith in
-    ap (anyOf p) (numbers-snoc 0 n) ∙ any-append p (numbersFrom 0 n) ((0 + n) ∷ []) ∙ rw (z, or-false (p n))
-
 -- a pass that goes on from entry i to r
 pub passed-on : (directory : List (List ℕ)) (p : ℕ → Bool) → ((i : ℕ) → isUsed (entryAt directory i) ≡ false → p i ≡ false)
     → (i r : ℕ) → Passed directory i r → p i ≡ false → firstFrom p i ≡ firstFrom p r
@@ -161,19 +153,6 @@ module _ (directory : List (List ℕ)) (p : ℕ → Bool) (unused : (i : ℕ) �
     pub found-later : p i ≡ false → firstFrom p (reached used j) ≡ firstFrom p (reached used (j + 1))
     found-later q = from-here ∙ sym (first-same p i q) ∙ ap (firstFrom p) (sym (add-one i) ∙ reached-next used j i e)
 
-    any-before : anyOf p (numbersFrom 0 (reached used j)) ≡ anyOf p (numbersFrom 0 i)
-    any-before = stays directory (λ n. anyOf p (numbersFrom 0 n)) (λ k u. any-snoc p k ∙ rw (unused k u, or-false)) l j i e h
-
   pub found-none : (j : ℕ) → j ≡ count → firstFrom p (reached used j) ≡ none
   unfolding firstFrom
   found-none j z = stays-to-end directory (firstFrom p) (λ k u. first-same p k (unused k u)) l j z
-
-  -- among the entries before the list's number j are those of its first j numbers
-  any-reached : (j : ℕ) → j ≤ count → anyOf p (numbersFrom 0 (reached used j)) ≡ anyOf (λ h. p (getD used h 0)) (numbersFrom 0 j)
-  any-reached zero h = refl
-  any-reached (suc j) h =
-      let before = sym (any-before j (getD used j 0) refl (omega arith)) ∙ any-reached j (omega arith) in
-      any-snoc p (getD used j 0) ∙ rw before (sym (any-snoc (λ h. p (getD used h 0)) j))
-
-  pub any-listed : (j i : ℕ) → i ≡ getD used j 0 → j < count → anyOf p (numbersFrom 0 i) ≡ anyOf (λ h. p (getD used h 0)) (numbersFrom 0 j)
-  any-listed j i e h = sym (any-before j i e h) ∙ any-reached j (omega arith)
