@@ -4,9 +4,10 @@ use mathlib.Core.Path.{_≡_, sym, ap, _∙_}
 use mathlib.Core.List.{List, _++_, append-assoc, append-nil}
 use native.Mathlib.Omega.{arith}
 use lib.ListN.{length, take, drop, length-append, length-take, length-drop, drop-of-length-le}
-use lib.Seq.{take-at, drop-at, take-all}
+use lib.Seq.{take-at, drop-at}
 use borrow.Rule.Slice.PartMut.{midOf, putMid, post-is}
 use Rattle.words.specs.Words.{wordBytes}
+use Rattle.words.proofs.PartsLaws.{copied-over}
 use Rattle.checksum.specs.Crc.{checksumOf}
 use Rattle.flash_model.specs.UserBlock.{newBlock}
 use Rattle.flash_model.specs.Update.{withBlock}
@@ -20,12 +21,6 @@ pub put-block : (image part : List ℕ) (k : ℕ) → putMid (k * 64) (k * 64 + 
 unfolding withBlock
 put-block image part k =
     rw (post-is (k * 64) (k * 64 + 64) image (omega arith)) (sym (append-assoc (take (k * 64) image) part (drop (k * 64 + 64) image)))
-
--- the whole of one run copied over another of its length
-copied : (src dst : List ℕ) → length src ≡ length dst → take (length src) src ++ drop (length src) dst ≡ src
-copied src dst e =
-    let h : length dst ≤ length src = omega arith in
-    rw (drop-of-length-le dst h) (append-nil _ ∙ take-all (length src) src (omega arith))
 
 -- number, page and checksum over the three parts of a block
 pub written : {first second third : List ℕ} {sum : ℕ} (block page : List ℕ) (n : ℕ)
@@ -41,7 +36,7 @@ written {first} {second} {third} {sum} block page n lb lp e1 e2 es e3 =
     let end = drop 60 rest in
     let l1 : length first ≡ 2 = ap length e1 in
     let lm : length (midOf 2 60 (first ++ rest)) ≡ 60 = rw (drop-at first rest 2 l1) (simp (length-take, length-drop) (omega arith)) in
-    let s : second ≡ page = e2 ∙ copied page (midOf 2 60 (first ++ rest)) (lp ∙ sym lm) in
+    let s : second ≡ page = e2 ∙ copied-over page (midOf 2 60 (first ++ rest)) (lp ∙ sym lm) in
     let l2 : length (first ++ second) ≡ 62 = length-append first second ∙ omega (arith, ap length s) in
     let two : putMid 2 60 (first ++ rest) second ≡ first ++ second ++ end = laid first second rest 2 60 l1 in
     let sum-is : sum ≡ checksumOf (first ++ second) = es ∙ ap checksumOf (ap (take 62) two ∙ take-at (first ++ second) end 62 l2) in

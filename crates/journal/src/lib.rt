@@ -11,8 +11,8 @@ ghost use Rattle.flash_model.specs.UserBlock.{newBlock};
 ghost use Rattle.flash_model.specs.Update as model;
 ghost use Rattle.bitmap.specs.Over.{Over};
 
-// Number, payload and checksum, over all 64 bytes of the part.
-fn write_block(block: &mut [u8], number: usize, page: &[u8])
+// Number, payload and checksum, over all 64 bytes.
+fn make_block(block: &mut [u8], number: usize, page: &[u8])
     requires { ⌜ (length (now block) ≡ 64) × (length (now page) ≡ 60) × (number < 65536) ⌝ }
     ensures { λ _. ⌜ now (block .exit) ≡ newBlock number (now (page .entry)) ⌝ }
 {
@@ -20,6 +20,17 @@ fn write_block(block: &mut [u8], number: usize, page: &[u8])
     bytes::copy(page, &mut block[2..62]);
     let sum = checksum::checksum(&block[0..62]) as usize;
     put_word(&mut block[62..64], sum);
+}
+
+// A new block over the part. It is made in an array first: the compiler then knows that the page lies elsewhere, and moves 16
+// bytes at a time.
+fn write_block(part: &mut [u8], number: usize, page: &[u8])
+    requires { ⌜ (length (now part) ≡ 64) × (length (now page) ≡ 60) × (number < 65536) ⌝ }
+    ensures { λ _. ⌜ now (part .exit) ≡ newBlock number (now (page .entry)) ⌝ }
+{
+    let mut block = [0u8; 64];
+    make_block(&mut block, number, page);
+    bytes::copy(&block, part);
 }
 
 // Block k of the image gets number, payload and checksum.

@@ -2,14 +2,13 @@
 use Prim.Native.Nat.{ℕ, suc, _+_, _-_, _≤_}
 use mathlib.Core.Path.{_≡_, refl, sym, ap, _∙_}
 use mathlib.Core.Bool.{Bool, true, false}
-use mathlib.Core.List.{List, _++_}
+use mathlib.Core.List.{List}
 use mathlib.Core.Option.{Option, none, some, Option·map}
 use native.Mathlib.Omega.{arith}
 use lib.ListN.{length, getD, take, drop, length-take, length-drop}
 use lib.Seq.{take-take}
 use borrow.Author.Tests.{ne-eqb}
 use Rattle.words.proofs.ListLaws.{take-drop}
-use Rattle.words.proofs.PartsLaws.{copied-over}
 use Rattle.flash_model.specs.Measures.{capacity, legalNumber}
 use Rattle.flash_model.specs.UserBlock.{payload}
 use Rattle.flash_model.specs.Partition.{blockAt, contents, holder}
@@ -75,9 +74,8 @@ module _ (image : List ℕ) (size count : ℕ) (u : Usable image size count) (n 
       unfolding readRest readBuffer
       done page e = record { code-is = rw (here true legal, l, e); buffer-is = rw (here true legal, l, e) }
 
-      -- the buffer after the payload is copied over all of it
-      pub read-0 : (k : ℕ) → asFound (holder image n) ≡ At k → (src : List ℕ) → src ≡ payload (blockAt image k) → length src ≡ 60
-          → (left : List ℕ) → left ≡ take (length src) src ++ drop (length src) buffer → ReadAs 0 left
-      read-0 k f src e s left h =
-          let a : left ≡ payload (blockAt image k) = h ∙ copied-over src buffer (s ∙ sym l) ∙ e in
-          record { code-is = done _ (contents-at image n k f) .code-is; buffer-is = a ∙ done _ (contents-at image n k f) .buffer-is }
+      -- the payload of the block that was found
+      pub read-0 : (k : ℕ) → asFound (holder image n) ≡ At k → (page : List ℕ) → page ≡ payload (blockAt image k) → ReadAs 0 page
+      read-0 k f page e =
+          let r = done (payload (blockAt image k)) (contents-at image n k f) in
+          record { code-is = r .code-is; buffer-is = e ∙ r .buffer-is }

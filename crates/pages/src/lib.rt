@@ -8,13 +8,25 @@ ghost use mathlib.Core.Path.{_≡_};
 ghost use mathlib.Core.Bool.{cond};
 ghost use Prim.Native.Nat.{_≤_};
 ghost use lib.Dec.{eqb};
-ghost use lib.ListN.{length};
+ghost use lib.ListN.{length, take};
 ghost use Rattle.flash_model.specs.Measures.{topNumber};
+ghost use Rattle.flash_model.specs.UserBlock.{payload};
 ghost use Rattle.flash_model.specs.Partition.{row};
 ghost use Rattle.flash_model.specs.Update.{appendBlock, saved};
 ghost use Rattle.flash_model.specs.Calls.{changedSince};
 ghost use Rattle.partition.specs.Usable.{Usable};
 ghost use Rattle.pages.specs.Rows.{readRest, readBuffer, wrongLengths, saveRest, canAppend};
+
+// Copies the payload of the block that begins this part over the page. It goes by an array: the compiler then knows that the page
+// lies elsewhere, and moves 16 bytes at a time.
+fn copy_payload(part: &[u8], page: &mut [u8])
+    requires { ⌜ (64 ≤ length (now part)) × (length (now page) ≡ 60) ⌝ }
+    ensures { λ _. ⌜ now (page .exit) ≡ payload (take 64 (now (part .entry))) ⌝ }
+{
+    let mut copied = [0u8; 60];
+    bytes::copy(&part[2..62], &mut copied);
+    bytes::copy(&copied, page);
+}
 
 // Reads the contents of a number into the page: refusals 6, 8 and 7, or 0.
 pub fn read_page(image: &[u8], m: Measures, used: usize, number: usize, page: &mut [u8]) -> u8
@@ -31,8 +43,7 @@ pub fn read_page(image: &[u8], m: Measures, used: usize, number: usize, page: &m
     let Found::At(k) = find(image, m, used, number) else {
         return 7;
     };
-    let block = part_from(image, m, k);
-    bytes::copy(&block[2..62], page);
+    copy_payload(part_from(image, m, k), page);
     0
 }
 
@@ -54,13 +65,14 @@ fn changed(image: &[u8], m: Measures, used: usize, number: usize, expected: &[u8
     requires { ⌜ Usable (now image) (m .size) used ⌝ }
     ensures { λ r. ⌜ r ≡ row 9 (changedSince (now (image .entry)) number (now (expected .entry))) 0 ⌝ }
 {
+    let found = find(image, m, used, number);
     if expected.len() == 0 {
-        let Found::Nothing = find(image, m, used, number) else {
+        let Found::Nothing = found else {
             return 9;
         };
         return 0;
     }
-    let Found::At(k) = find(image, m, used, number) else {
+    let Found::At(k) = found else {
         return 9;
     };
     let block = part_from(image, m, k);

@@ -26,7 +26,7 @@ returns c =
     let i = a .args .image .now in
     let s = a .args .m .size in
     let u = a .pre in
-    page-there i s (a .args .used) u (a .args .number) (a .args .expected .now) (c .before .before .before .if1 .taken) _ (sym (c .before .before .find .ensures) ∙ c .enum-told2 .given .1)
+    page-there i s (a .args .used) u (a .args .number) (a .args .expected .now) (c .before .before .if1 .taken) _ (sym (c .before .before .before .find .ensures) ∙ c .enum-told2 .given .1)
 
 returns-2 : tie.Need-returns-2
 returns-2 c =
@@ -34,13 +34,10 @@ returns-2 c =
     let i = a .args .image .now in
     let s = a .args .m .size in
     let u = a .pre in
-    nothing-there i s (a .args .used) u (a .args .number) (a .args .expected .now) (c .before .before .before .if1 .taken) (sym (c .before .before .find .ensures) ∙ c .enum-told .given .1)
+    nothing-there i s (a .args .used) u (a .args .number) (a .args .expected .now) (c .before .before .if1 .taken) (sym (c .before .before .before .find .ensures) ∙ c .enum-told .given .1)
 
-find-requires-2 : tie.Need-find-requires-2
-find-requires-2 c κs = search needs
-
-enum-known-k : tie.Need-enum-known-k
-enum-known-k c = search needs
+enum-known-found : tie.Need-enum-known-found
+enum-known-found c = search needs
 
 enum-told-3 : tie.Need-enum-told-3
 enum-told-3 c = search needs
@@ -51,7 +48,7 @@ returns-3 c =
     let i = a .args .image .now in
     let s = a .args .m .size in
     let u = a .pre in
-    nothing-left i s (a .args .used) u (a .args .number) (a .args .expected .now) (c .before .before .before .if1 .left) (sym (c .before .before .find2 .ensures) ∙ c .enum-told3 .given .1)
+    nothing-left i s (a .args .used) u (a .args .number) (a .args .expected .now) (c .before .before .if1 .left) (sym (c .before .before .before .find .ensures) ∙ c .enum-told3 .given .1)
 
 part-from-requires : tie.Need-part-from-requires
 part-from-requires c κs =
@@ -59,7 +56,7 @@ part-from-requires c κs =
     let i = a .args .image .now in
     let s = a .args .m .size in
     let u = a .pre in
-    (usable-over i s (a .args .used) u, found-high i s (a .args .used) u (a .args .number) _ (sym (c .before .before .before .find2 .ensures) ∙ c .before .k .given .1))
+    (usable-over i s (a .args .used) u, found-high i s (a .args .used) u (a .args .number) _ (sym (c .before .before .before .before .find .ensures) ∙ c .before .found .given .1))
 
 sub-same : tie.Need-sub-same
 sub-same c = search needs
@@ -80,7 +77,7 @@ returns-4 c =
     let s = a .args .m .size in
     let u = a .pre in
     let part = c .before .before .before .part-from in
-    compared i s (a .args .used) u (a .args .number) (a .args .expected .now) _ (sym (c .before .before .before .before .before .before .before .find2 .ensures) ∙ c .before .before .before .before .before .k .given .1) true
+    compared i s (a .args .used) u (a .args .number) (a .args .expected .now) _ (sym (c .before .before .before .before .before .before .before .before .find .ensures) ∙ c .before .before .before .before .before .found .given .1) true
     (sym (c .if2 .taken) ∙ c .before .same .ensures ∙ ap (λ (l : List ℕ). sameBytes l (a .args .expected .now)) (payload-part (part .result .now) _ (part .ensures .0)))
 
 returns-5 : tie.Need-returns-5
@@ -90,7 +87,7 @@ returns-5 c =
     let s = a .args .m .size in
     let u = a .pre in
     let part = c .before .before .before .part-from in
-    compared i s (a .args .used) u (a .args .number) (a .args .expected .now) _ (sym (c .before .before .before .before .before .before .before .find2 .ensures) ∙ c .before .before .before .before .before .k .given .1) false
+    compared i s (a .args .used) u (a .args .number) (a .args .expected .now) _ (sym (c .before .before .before .before .before .before .before .before .find .ensures) ∙ c .before .before .before .before .before .found .given .1) false
     (sym (c .if2 .left) ∙ c .before .same .ensures ∙ ap (λ (l : List ℕ). sameBytes l (a .args .expected .now)) (payload-part (part .result .now) _ (part .ensures .0)))
 
 pub changed-spec : {M : Type 1} → statement M
@@ -102,8 +99,7 @@ changed-spec =
     enum-told-2
     returns
     returns-2
-    find-requires-2
-    enum-known-k
+    enum-known-found
     enum-told-3
     returns-3
     part-from-requires
