@@ -5,11 +5,11 @@ use partition::blocks::find;
 use partition::blocks::part_from;
 use words::same;
 ghost use mathlib.Core.Path.{_≡_};
-ghost use mathlib.Core.Bool.{cond};
+ghost use mathlib.Core.Bool.{true, cond};
 ghost use Prim.Native.Nat.{_≤_};
 ghost use lib.Dec.{eqb};
 ghost use lib.ListN.{length, take};
-ghost use Rattle.flash_model.specs.Measures.{topNumber};
+ghost use Rattle.flash_model.specs.Measures.{legalNumber, topNumber};
 ghost use Rattle.flash_model.specs.UserBlock.{payload};
 ghost use Rattle.flash_model.specs.Partition.{row};
 ghost use Rattle.flash_model.specs.Update.{appendBlock, saved};
@@ -63,6 +63,7 @@ fn wrong_lengths(expected: &[u8], page: &[u8]) -> bool
 // 9 where the contents of the number are not what is expected, 0 bytes being nothing; else 0.
 fn changed(image: &[u8], m: Measures, used: usize, number: usize, expected: &[u8]) -> u8
     requires { ⌜ Usable (now image) (m .size) used ⌝ }
+    requires { ⌜ legalNumber (m .size) number ≡ true ⌝ }
     ensures { λ r. ⌜ r ≡ row 9 (changedSince (now (image .entry)) number (now (expected .entry))) 0 ⌝ }
 {
     let found = find(image, m, used, number);

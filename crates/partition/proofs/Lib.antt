@@ -1,3 +1,4 @@
 pub mod PartLaws
 pub mod UsableLaws
 pub mod OpenLaws
+pub mod SearchLaws

@@ -1,2 +1,3 @@
 pub mod Usable
 pub mod Opening
+pub mod Search

@@ -3,15 +3,16 @@ use bitmap::Found;
 use measures::Measures;
 use words::word;
 ghost use mathlib.Core.Path.{_≡_};
-ghost use mathlib.Core.Bool.{_&&_};
-ghost use Prim.Native.Nat.{_≤_};
+ghost use mathlib.Core.Bool.{true, false, _&&_};
+ghost use Prim.Native.Nat.{_-_, _≤_};
 ghost use lib.Dec.{eqb};
 ghost use lib.ListN.{length, take};
 ghost use Rattle.flash_model.specs.UserBlock as model;
-ghost use Rattle.flash_model.specs.Measures.{capacity};
+ghost use Rattle.flash_model.specs.Measures.{capacity, legalNumber};
 ghost use Rattle.flash_model.specs.Partition.{blockAt, holder};
 ghost use Rattle.bitmap.specs.Over.{Over, asFound};
 ghost use Rattle.partition.specs.Usable.{Usable};
+ghost use Rattle.partition.specs.Search.{foundUpTo, orElse};
 
 // The part of the image that begins with block k.
 pub fn part_from(image: &[u8], m: Measures, k: usize) -> &[u8]
@@ -43,20 +44,69 @@ pub fn holds_number(part: &[u8], number: usize) -> bool
     right_checksum(part)
 }
 
-// The block that holds the contents of a number: searched from the highest used block down.
-pub fn find(image: &[u8], m: Measures, used: usize, number: usize) -> Found
-    requires { ⌜ Usable (now image) (m .size) used ⌝ }
-    ensures { λ r. ⌜ r ≡ asFound (holder (now (image .entry)) number) ⌝ }
+// Whether one of the eight blocks up to k has the number. The loop has no way out, so that it is compiled to eight tests in a row.
+fn any_of_eight(image: &[u8], m: Measures, k: usize, number: usize) -> bool
+    requires { ⌜ Over (now image) (m .size) ⌝ }
+    requires { ⌜ (8 ≤ k) × (k ≤ capacity (m .size)) ⌝ }
+    ensures { λ r. ⌜ (r ≡ false → foundUpTo (now (image .entry)) number k ≡ foundUpTo (now (image .entry)) number (k - 8)) ⌝ }
 {
-    if !m.legal_number(number) {
-        return Found::Nothing;
+    let mut any = false;
+    let mut j: usize = 0;
+    while j < 8 {
+        any = any | (word(part_from(image, m, k - j), 0) == number);
+        j += 1;
     }
-    let mut k = used;
-    while 0 < k {
+    any
+}
+
+// From `top` down, the block where the search goes on: eights none of which has the number are passed.
+fn pass_eights(image: &[u8], m: Measures, top: usize, number: usize) -> usize
+    requires { ⌜ Over (now image) (m .size) ⌝ }
+    requires { ⌜ top ≤ capacity (m .size) ⌝ }
+    ensures { λ r. ⌜ (r ≤ top) × (foundUpTo (now (image .entry)) number top ≡ foundUpTo (now (image .entry)) number r) ⌝ }
+{
+    let mut k = top;
+    while 8 <= k {
+        if any_of_eight(image, m, k, number) {
+            return k;
+        }
+        k -= 8;
+    }
+    k
+}
+
+// The search from `top` down to the block above `bottom`.
+fn find_above(image: &[u8], m: Measures, bottom: usize, top: usize, number: usize) -> Found
+    requires { ⌜ Over (now image) (m .size) ⌝ }
+    requires { ⌜ (bottom ≤ top) × (top ≤ capacity (m .size)) ⌝ }
+    ensures { λ r. ⌜ foundUpTo (now (image .entry)) number top ≡ orElse r (foundUpTo (now (image .entry)) number bottom) ⌝ }
+{
+    let mut k = top;
+    while bottom < k {
         if holds_number(part_from(image, m, k), number) {
             return Found::At(k);
         }
         k -= 1;
+    }
+    Found::Nothing
+}
+
+// The block that holds the contents of a number: searched from the highest used block down, one by one only where one of eight has
+// the number. Callers have tested the number, so that this is small enough to be compiled into them.
+pub fn find(image: &[u8], m: Measures, used: usize, number: usize) -> Found
+    requires { ⌜ Usable (now image) (m .size) used ⌝ }
+    requires { ⌜ legalNumber (m .size) number ≡ true ⌝ }
+    ensures { λ r. ⌜ r ≡ asFound (holder (now (image .entry)) number) ⌝ }
+{
+    let mut k = used;
+    while 0 < k {
+        let top = pass_eights(image, m, k, number);
+        let bottom = if top < 8 { 0 } else { top - 8 };
+        let found = find_above(image, m, bottom, top, number);
+        let Found::Nothing = found else {
+            return found;
+        };
+        k = bottom;
     }
     Found::Nothing
 }

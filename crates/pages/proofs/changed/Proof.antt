@@ -25,7 +25,7 @@ returns c =
     let a = c .before .before .before .before .before .before in
     let i = a .args .image .now in
     let s = a .args .m .size in
-    let u = a .pre in
+    let u = a .pre .0 in
     page-there i s (a .args .used) u (a .args .number) (a .args .expected .now) (c .before .before .if1 .taken) _ (sym (c .before .before .before .find .ensures) ∙ c .enum-told2 .given .1)
 
 returns-2 : tie.Need-returns-2
@@ -33,7 +33,7 @@ returns-2 c =
     let a = c .before .before .before .before .before .before in
     let i = a .args .image .now in
     let s = a .args .m .size in
-    let u = a .pre in
+    let u = a .pre .0 in
     nothing-there i s (a .args .used) u (a .args .number) (a .args .expected .now) (c .before .before .if1 .taken) (sym (c .before .before .before .find .ensures) ∙ c .enum-told .given .1)
 
 enum-known-found : tie.Need-enum-known-found
@@ -47,7 +47,7 @@ returns-3 c =
     let a = c .before .before .before .before .before .before in
     let i = a .args .image .now in
     let s = a .args .m .size in
-    let u = a .pre in
+    let u = a .pre .0 in
     nothing-left i s (a .args .used) u (a .args .number) (a .args .expected .now) (c .before .before .if1 .left) (sym (c .before .before .before .find .ensures) ∙ c .enum-told3 .given .1)
 
 part-from-requires : tie.Need-part-from-requires
@@ -55,7 +55,7 @@ part-from-requires c κs =
     let a = c .before .before .before .before .before .before .before in
     let i = a .args .image .now in
     let s = a .args .m .size in
-    let u = a .pre in
+    let u = a .pre .0 in
     (usable-over i s (a .args .used) u, found-high i s (a .args .used) u (a .args .number) _ (sym (c .before .before .before .before .find .ensures) ∙ c .before .found .given .1))
 
 sub-same : tie.Need-sub-same
@@ -75,7 +75,7 @@ returns-4 c =
     let a = c .before .before .before .before .before .before .before .before .before .before .before in
     let i = a .args .image .now in
     let s = a .args .m .size in
-    let u = a .pre in
+    let u = a .pre .0 in
     let part = c .before .before .before .part-from in
     compared i s (a .args .used) u (a .args .number) (a .args .expected .now) _ (sym (c .before .before .before .before .before .before .before .before .find .ensures) ∙ c .before .before .before .before .before .found .given .1) true
     (sym (c .if2 .taken) ∙ c .before .same .ensures ∙ ap (λ (l : List ℕ). sameBytes l (a .args .expected .now)) (payload-part (part .result .now) _ (part .ensures .0)))
@@ -85,7 +85,7 @@ returns-5 c =
     let a = c .before .before .before .before .before .before .before .before .before .before .before in
     let i = a .args .image .now in
     let s = a .args .m .size in
-    let u = a .pre in
+    let u = a .pre .0 in
     let part = c .before .before .before .part-from in
     compared i s (a .args .used) u (a .args .number) (a .args .expected .now) _ (sym (c .before .before .before .before .before .before .before .before .find .ensures) ∙ c .before .before .before .before .before .found .given .1) false
     (sym (c .if2 .left) ∙ c .before .same .ensures ∙ ap (λ (l : List ℕ). sameBytes l (a .args .expected .now)) (payload-part (part .result .now) _ (part .ensures .0)))

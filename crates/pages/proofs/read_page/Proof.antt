@@ -35,7 +35,9 @@ returns-2 c =
     (r .code-is, r .buffer-is)
 
 find-requires : tie.Need-find-requires
-find-requires c κs = search needs
+find-requires c κs =
+    let l = c .before in
+    (l .before .before .before .before .pre, sym (l .before .legal-number .ensures) ∙ not-false _ (l .if1 .left))
 
 enum-known-k : tie.Need-enum-known-k
 enum-known-k c = search needs

@@ -40,7 +40,9 @@ returns-2 c =
     (r .code-is, r .image-is)
 
 changed-requires : tie.Need-changed-requires
-changed-requires c κs = search needs
+changed-requires c κs =
+    let l = c .before .before .before in
+    (l .before .before .before .before .before .pre, sym (l .before .legal-number .ensures) ∙ not-false _ (l .if1 .left))
 
 same-length : tie.Need-same-length
 same-length c = search needs

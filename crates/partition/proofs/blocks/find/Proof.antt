@@ -1,81 +1,78 @@
--- `blocks::find` meets its contract. The loop's invariant: the holder is the highest of the blocks left that matches.
--- Assumes nothing.
+-- `blocks::find` meets its contract. The loop's invariant: the blocks above k are passed. Assumes nothing.
 use Prim.Native.Nat.{_≤_}
 use mathlib.Core.Path.{_≡_, sym, ap, _∙_}
+use mathlib.Core.Logic.{⊎-elim}
 use native.Mathlib.Omega.{arith}
-use borrow.Author.Tests.{not-true, not-false}
-use Rattle.words.specs.Search.{highest}
-use Rattle.words.proofs.LoopLaws.{highest-here, highest-next, highest-end}
-use Rattle.flash_model.specs.Partition.{blockAt, holder}
-use Rattle.flash_model.proofs.HolderLaws.{matches}
+use Rattle.flash_model.specs.Partition.{holder}
 use Rattle.bitmap.specs.Over.{asFound}
-use Rattle.partition.proofs.UsableLaws.{usable-legal, usable-over, count-most, holder-none, holder-some}
+use Rattle.partition.specs.Search.{foundUpTo, orElse}
+use Rattle.partition.proofs.SearchLaws.{from-used, none-left}
+use Rattle.partition.proofs.UsableLaws.{usable-over, count-most}
 use borrow.Author.Needs.{needs}
 use Rattle.partition.proofs.blocks.find.Statement.{statement}
 use Rattle.partition.proofs.blocks.find.Tie as tie
 
 abbrev Inv-loop : tie.InvT-loop
-Inv-loop image m used number k₀ k = (k ≤ used) × (holder image number ≡ highest (λ j. matches number (blockAt image j)) k)
+Inv-loop image m used number k₀ k = (k ≤ used) × (asFound (holder image number) ≡ foundUpTo image number k)
 
 abbrev μ-loop : tie.MeasureT-loop
 μ-loop image m used number k₀ k = k
 
-legal-number-requires : tie.Need-legal-number-requires Inv-loop μ-loop
-legal-number-requires c κs =
-    let a = c .before in
-    usable-legal (a .args .image .now) (a .args .m .size) (a .args .used) (a .pre)
+loop-holds : tie.Need-loop-holds Inv-loop μ-loop
+loop-holds c =
+    let s = c .before in
+    (omega arith, from-used (s .args .image .now) (s .args .m .size) (s .args .used) (s .pre .0) (s .args .number) (s .pre .1))
+
+pass-eights-requires : tie.Need-pass-eights-requires Inv-loop μ-loop
+pass-eights-requires c κs =
+    let s = c .before .before .before in
+    let i = s .args .image .now in
+    let u = s .pre .0 in
+    (usable-over i (s .args .m .size) (s .args .used) u, omega (arith, c .before .loop .inv .0, count-most i (s .args .m .size) (s .args .used) u))
+
+find-above-requires : tie.Need-find-above-requires Inv-loop μ-loop
+find-above-requires c κs =
+    let s = c .before .before .before .before .before in
+    let i = s .args .image .now in
+    let u = s .pre .0 in
+    let low : c .if1 .bottom ≤ c .before .pass-eights .result = ⊎-elim (λ w. omega arith) (λ w. omega arith) (c .if1 .came) in
+    (usable-over i (s .args .m .size) (s .args .used) u, (low, omega (arith, c .before .before .before .loop .inv .0, c .before .pass-eights .ensures .0, count-most i (s .args .m .size) (s .args .used) u)))
+
+enum-told : tie.Need-enum-told Inv-loop μ-loop
+enum-told c = search needs
+
+enum-told-2 : tie.Need-enum-told-2 Inv-loop μ-loop
+enum-told-2 c = search needs
 
 returns : tie.Need-returns Inv-loop μ-loop
 returns c =
-    let a = c .before .before .before in
-    let l = c .before .legal-number in
-    sym (ap asFound (holder-none (a .args .image .now) (a .args .m .size) (a .args .used) (a .pre) (a .args .number)
-    (sym (l .ensures) ∙ not-true (l .result) (c .if1 .taken))))
-
-loop-holds : tie.Need-loop-holds Inv-loop μ-loop
-loop-holds c =
-    let a = c .before .before .before in
-    let l = c .before .legal-number in (
-      omega arith,
-      holder-some (a .args .image .now) (a .args .m .size) (a .args .used) (a .pre) (a .args .number)
-          (sym (l .ensures) ∙ not-false (l .result) (c .if1 .left)),
-    )
-
-part-from-requires : tie.Need-part-from-requires Inv-loop μ-loop
-part-from-requires c κs =
-    let a = c .before .before .before .before .before in
-    let i = a .args .image .now in
-    (usable-over i (a .args .m .size) (a .args .used) (a .pre), omega (arith, c .before .loop .inv .0, count-most i (a .args .m .size) (a .args .used) (a .pre)))
-
-holds-number-requires : tie.Need-holds-number-requires Inv-loop μ-loop
-holds-number-requires c κs = c .part-from .ensures .1
-
-returns-2 : tie.Need-returns-2 Inv-loop μ-loop
-returns-2 c =
-    let l = c .before .before .before .before in
-    let a = l .before .before .before .before in
-    let here = ap (matches (a .args .number)) (sym (c .before .before .part-from .ensures .0)) ∙ sym (c .before .holds-number .ensures) ∙ c .if2 .taken in
-    sym (ap asFound (l .loop .inv .1
-    ∙ highest-here (λ j. matches (a .args .number) (blockAt (a .args .image .now) j)) (l .loop .k) (c .before .before .before .loop-test .taken) here))
-
-sub-k : tie.Need-sub-k Inv-loop μ-loop
-sub-k c = search needs
+    let f = c .before .before .find-above in
+    let p = c .before .before .before .before .pass-eights in
+    let l = c .before .before .before .before .before .before .loop in
+    let a = c .before .before .before .before .before .before .before .before .args in
+    let rest = foundUpTo (a .image .now) (a .number) (c .before .before .before .if1 .bottom) in
+    sym (l .inv .1 ∙ p .ensures .1 ∙ f .ensures ∙ ap (λ r. orElse r rest) (c .enum-told2 .given .1) ∙ sym (c .enum-told2 .given .1))
 
 loop-less : tie.Need-loop-less Inv-loop μ-loop
-loop-less c = search needs
+loop-less c = ⊎-elim (λ w. omega arith) (λ w. omega arith) (c .before .before .before .if1 .came)
 
 loop-again : tie.Need-loop-again Inv-loop μ-loop
 loop-again c =
-    let l = c .before .before .before .before in
-    let a = l .before .before .before .before in
-    let here = ap (matches (a .args .number)) (sym (c .before .before .part-from .ensures .0)) ∙ sym (c .before .holds-number .ensures) ∙ c .if2 .left in (
-      omega arith,
-      l .loop .inv .1
-          ∙ highest-next (λ j. matches (a .args .number) (blockAt (a .args .image .now) j)) (l .loop .k) (c .before .before .before .loop-test .taken) here,
+    let f = c .before .before .find-above in
+    let p = c .before .before .before .before .pass-eights in
+    let l = c .before .before .before .before .before .before .loop in
+    let a = c .before .before .before .before .before .before .before .before .args in
+    let rest = foundUpTo (a .image .now) (a .number) (c .before .before .before .if1 .bottom) in
+    let j = c .before .before .before .if1 in (
+      ⊎-elim (λ w. omega arith) (λ w. omega arith) (j .came),
+      l .inv .1 ∙ p .ensures .1 ∙ f .ensures ∙ ap (λ r. orElse r rest) (c .enum-told .given .1),
     )
 
-returns-3 : tie.Need-returns-3 Inv-loop μ-loop
-returns-3 c = sym (ap asFound (c .before .loop .inv .1 ∙ highest-end _ (c .before .loop .k) (c .loop-test .left)))
+returns-2 : tie.Need-returns-2 Inv-loop μ-loop
+returns-2 c =
+    let a = c .before .before .before .args in
+    let l = c .before .loop in
+    sym (l .inv .1 ∙ none-left (a .image .now) (a .number) (l .k) (c .loop-test .left))
 
 pub find-spec : {M : Type 1} → statement M
 find-spec =
@@ -83,13 +80,12 @@ find-spec =
     (tie.spec
     Inv-loop
     μ-loop
-    legal-number-requires
-    returns
     loop-holds
-    part-from-requires
-    holds-number-requires
-    returns-2
-    sub-k
+    pass-eights-requires
+    find-above-requires
+    enum-told
+    enum-told-2
+    returns
     loop-less
     loop-again
-    returns-3)
+    returns-2)

@@ -1,0 +1,40 @@
+-- The search for a number's contents: where it begins, what it passes, what it finds and how it ends. Assumes nothing.
+use Prim.Native.Nat.{ℕ, _-_, _≤_, _<_}
+use mathlib.Core.Path.{_≡_, sym, ap, _∙_}
+use mathlib.Core.Bool.{true, false}
+use mathlib.Core.List.{List}
+use lib.Dec.{eqb}
+use lib.ListN.{take}
+use Rattle.words.specs.Words.{word}
+use Rattle.words.proofs.LoopLaws.{highest-here, highest-next, highest-end}
+use Rattle.flash_model.specs.Measures.{legalNumber}
+use Rattle.flash_model.specs.Partition.{blockAt, holder}
+use Rattle.flash_model.proofs.HolderLaws.{matches}
+use Rattle.bitmap.specs.Over.{asFound}
+use Rattle.bitmap.specs.declared.Found.the-variants.{At, Nothing}
+use Rattle.partition.specs.Usable.{Usable}
+use Rattle.partition.specs.Search.{foundUpTo}
+use Rattle.partition.proofs.PartLaws.{number-front}
+use Rattle.partition.proofs.UsableLaws.{holder-some}
+
+pub from-used : (image : List ℕ) (size count : ℕ) → Usable image size count → (n : ℕ) → legalNumber size n ≡ true
+    → asFound (holder image n) ≡ foundUpTo image n count
+unfolding foundUpTo
+from-used image size count u n legal = ap asFound (holder-some image size count u n legal)
+
+module _ (image : List ℕ) (n k : ℕ) where
+  pub found-here : 0 < k → matches n (blockAt image k) ≡ true → foundUpTo image n k ≡ At k
+  unfolding foundUpTo
+  found-here h e = ap asFound (highest-here (λ j. matches n (blockAt image j)) k h e)
+
+  pub passed : 0 < k → matches n (blockAt image k) ≡ false → foundUpTo image n k ≡ foundUpTo image n (k - 1)
+  unfolding foundUpTo
+  passed h e = ap asFound (highest-next (λ j. matches n (blockAt image j)) k h e)
+
+  -- a block is passed for its number alone
+  pub other-number : (part : List ℕ) → take 64 part ≡ blockAt image k → (w : ℕ) → w ≡ word part 0 → eqb w n ≡ false → matches n (blockAt image k) ≡ false
+  other-number part p w e f = rw (sym p, number-front part, sym e, f)
+
+  pub none-left : k ≤ 0 → foundUpTo image n k ≡ Nothing
+  unfolding foundUpTo
+  none-left h = ap asFound (highest-end (λ j. matches n (blockAt image j)) k h)
