@@ -7,3 +7,4 @@ pub mod RuleLaws
 pub mod FoldLaws
 pub mod CrcLaws
 pub mod FourLaws
+pub mod PageLaws

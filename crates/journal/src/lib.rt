@@ -1,5 +1,6 @@
 // The journal that a partition is: one block written behind the used ones, and its bitmap bit cleared.
 use bitmap::is_allocated;
+use checksum::block::of_page;
 use measures::BLOCK;
 use measures::Measures;
 use words::put_word;
@@ -11,26 +12,26 @@ ghost use Rattle.flash_model.specs.UserBlock.{newBlock};
 ghost use Rattle.flash_model.specs.Update as model;
 ghost use Rattle.bitmap.specs.Over.{Over};
 
-// Number, payload and checksum, over all 64 bytes.
-fn make_block(block: &mut [u8], number: usize, page: &[u8])
-    requires { ⌜ (length (now block) ≡ 64) × (length (now page) ≡ 60) × (number < 65536) ⌝ }
-    ensures { λ _. ⌜ now (block .exit) ≡ newBlock number (now (page .entry)) ⌝ }
+// Copies a page. It goes by an array: the compiler then knows that the two places don't overlap, and moves 16 bytes at a time.
+pub fn copy_page(page: &[u8], to: &mut [u8])
+    requires { ⌜ (length (now page) ≡ 60) × (length (now to) ≡ 60) ⌝ }
+    ensures { λ _. ⌜ now (to .exit) ≡ now (page .entry) ⌝ }
 {
-    put_word(&mut block[0..2], number);
-    bytes::copy(page, &mut block[2..62]);
-    let sum = checksum::checksum(&block[0..62]) as usize;
-    put_word(&mut block[62..64], sum);
+    let mut copied = [0u8; 60];
+    bytes::copy(page, &mut copied);
+    bytes::copy(&copied, to);
 }
 
-// A new block over the part. It is made in an array first: the compiler then knows that the page lies elsewhere, and moves 16
-// bytes at a time.
+// Number, payload and checksum, over all 64 bytes of the part. The checksum is worked from where the page stands: to load bytes
+// just stored, in words that cross the stores, would wait until all that was begun before is done.
 fn write_block(part: &mut [u8], number: usize, page: &[u8])
     requires { ⌜ (length (now part) ≡ 64) × (length (now page) ≡ 60) × (number < 65536) ⌝ }
     ensures { λ _. ⌜ now (part .exit) ≡ newBlock number (now (page .entry)) ⌝ }
 {
-    let mut block = [0u8; 64];
-    make_block(&mut block, number, page);
-    bytes::copy(&block, part);
+    let sum = of_page(number as u16, page) as usize;
+    put_word(&mut part[0..2], number);
+    copy_page(page, &mut part[2..62]);
+    put_word(&mut part[62..64], sum);
 }
 
 // Block k of the image gets number, payload and checksum.

@@ -1,11 +1,11 @@
 -- Reading: each way out of the functions is a row of the table. Assumes nothing.
 use Prim.Native.Nat.{ℕ, suc, _+_, _-_, _≤_}
-use mathlib.Core.Path.{_≡_, refl, sym, ap, _∙_}
+use mathlib.Core.Path.{_≡_, sym, ap, _∙_}
 use mathlib.Core.Bool.{Bool, true, false}
 use mathlib.Core.List.{List}
 use mathlib.Core.Option.{Option, none, some, Option·map}
 use native.Mathlib.Omega.{arith}
-use lib.ListN.{length, getD, take, drop, length-take, length-drop}
+use lib.ListN.{length, take, drop}
 use lib.Seq.{take-take}
 use borrow.Author.Tests.{ne-eqb}
 use Rattle.words.proofs.ListLaws.{take-drop}
@@ -38,9 +38,6 @@ pub payload-part : (part block : List ℕ) → take 64 part ≡ block → take (
 unfolding payload
 payload-part part block e =
     take-drop 2 60 part ∙ ap (drop 2) (sym (take-take (2 + 60) 64 part (omega arith))) ∙ sym (take-drop 2 60 (take 64 part)) ∙ ap (λ (b : List ℕ). take 60 (drop 2 b)) e
-
-pub part-60 : (part : List ℕ) → 64 ≤ length part → length (take (62 - 2) (drop 2 part)) ≡ 60
-part-60 part h = simp (length-take, length-drop) (omega arith)
 
 -- ---- read
 

@@ -1,5 +1,6 @@
 // Reads and saves of one page, on a partition that refusals 1 to 5 don't apply to.
 use bitmap::Found;
+use journal::copy_page;
 use measures::Measures;
 use partition::blocks::find;
 use partition::blocks::part_from;
@@ -8,25 +9,13 @@ ghost use mathlib.Core.Path.{_≡_};
 ghost use mathlib.Core.Bool.{true, cond};
 ghost use Prim.Native.Nat.{_≤_};
 ghost use lib.Dec.{eqb};
-ghost use lib.ListN.{length, take};
+ghost use lib.ListN.{length};
 ghost use Rattle.flash_model.specs.Measures.{legalNumber, topNumber};
-ghost use Rattle.flash_model.specs.UserBlock.{payload};
 ghost use Rattle.flash_model.specs.Partition.{row};
 ghost use Rattle.flash_model.specs.Update.{appendBlock, saved};
 ghost use Rattle.flash_model.specs.Calls.{changedSince};
 ghost use Rattle.partition.specs.Usable.{Usable};
 ghost use Rattle.pages.specs.Rows.{readRest, readBuffer, wrongLengths, saveRest, canAppend};
-
-// Copies the payload of the block that begins this part over the page. It goes by an array: the compiler then knows that the page
-// lies elsewhere, and moves 16 bytes at a time.
-fn copy_payload(part: &[u8], page: &mut [u8])
-    requires { ⌜ (64 ≤ length (now part)) × (length (now page) ≡ 60) ⌝ }
-    ensures { λ _. ⌜ now (page .exit) ≡ payload (take 64 (now (part .entry))) ⌝ }
-{
-    let mut copied = [0u8; 60];
-    bytes::copy(&part[2..62], &mut copied);
-    bytes::copy(&copied, page);
-}
 
 // Reads the contents of a number into the page: refusals 6, 8 and 7, or 0.
 pub fn read_page(image: &[u8], m: Measures, used: usize, number: usize, page: &mut [u8]) -> u8
@@ -43,7 +32,8 @@ pub fn read_page(image: &[u8], m: Measures, used: usize, number: usize, page: &m
     let Found::At(k) = find(image, m, used, number) else {
         return 7;
     };
-    copy_payload(part_from(image, m, k), page);
+    let block = part_from(image, m, k);
+    copy_page(&block[2..62], page);
     0
 }
 

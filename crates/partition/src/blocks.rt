@@ -33,7 +33,8 @@ pub fn right_checksum(part: &[u8]) -> bool
 }
 
 // Whether the block that begins this part has the number and a right checksum. The checksum is worked only for the number
-// asked.
+// asked. It is compared here again: with one caller it would be compiled into `right_checksum`, and loops would store a slice for
+// that, a call they seldom make, at every block.
 pub fn holds_number(part: &[u8], number: usize) -> bool
     requires { ⌜ 64 ≤ length (now part) ⌝ }
     ensures { λ r. ⌜ r ≡ (eqb (model.number (take 64 (now (part .entry)))) number && model.rightChecksum (take 64 (now (part .entry)))) ⌝ }
@@ -41,7 +42,8 @@ pub fn holds_number(part: &[u8], number: usize) -> bool
     if word(part, 0) != number {
         return false;
     }
-    right_checksum(part)
+    let sum = checksum::checksum(&part[0..62]) as usize;
+    word(part, 62) == sum
 }
 
 // Whether one of the eight blocks up to k has the number. The loop has no way out, so that it is compiled to eight tests in a row.

@@ -1,9 +1,8 @@
 -- `pages::read_page` meets its contract: each `return` is a row of the table. Assumes nothing.
-use mathlib.Core.Path.{sym, ap, _∙_}
+use mathlib.Core.Path.{sym, _∙_}
 use borrow.Author.Tests.{not-true, not-false}
-use Rattle.flash_model.specs.UserBlock.{payload}
 use Rattle.partition.proofs.UsableLaws.{usable-legal, usable-over}
-use Rattle.pages.proofs.ReadLaws.{contents-none, found-high, read-6, read-8, read-7, read-0}
+use Rattle.pages.proofs.ReadLaws.{contents-none, found-high, payload-part, read-6, read-8, read-7, read-0}
 use borrow.Author.Needs.{needs}
 use Rattle.pages.proofs.read_page.Statement.{statement}
 use Rattle.pages.proofs.read_page.Tie as tie
@@ -64,23 +63,33 @@ part-from-requires c κs =
     let u = a .pre in
     (usable-over i s (a .args .used) u, found-high i s (a .args .used) u (a .args .number) _ (sym (c .before .before .before .find .ensures) ∙ c .before .k .given .1))
 
-copy-payload-requires : tie.Need-copy-payload-requires
-copy-payload-requires c κs = search needs
+sub-copy-page : tie.Need-sub-copy-page
+sub-copy-page c = search needs
+
+part-copy-page-start : tie.Need-part-copy-page-start
+part-copy-page-start c = search needs
+
+part-copy-page-end : tie.Need-part-copy-page-end
+part-copy-page-end c = search needs
+
+copy-page-requires : tie.Need-copy-page-requires
+copy-page-requires c κs = search needs
 
 same-length : tie.Need-same-length
 same-length c = search needs
 
 returns-4 : tie.Need-returns-4
 returns-4 c =
-    let a = c .before .before .before .before .before .before .before .before .before .before .before .before .before .before in
+    let a = c .before .before .before .before .before .before .before .before .before .before .before .before .before .before .before in
     let i = a .args .image .now in
     let s = a .args .m .size in
     let u = a .pre in
-    let f = c .before .before .before .before .before .before .before .before in
+    let f = c .before .before .before .before .before .before .before .before .before in
     let l = f .before .before in
+    let part = c .before .before .before .before .before .part-from in
     let r = read-0 i s (a .args .used) u (a .args .number) (a .args .page .now) (sym (l .before .legal-number .ensures) ∙ not-false _ (l .if1 .left)) (f .before .if2 .left)
-    _ (sym (f .find .ensures) ∙ c .before .before .before .before .before .before .k .given .1)
-    _ (c .before .before .copy-payload .ensures ∙ ap payload (c .before .before .before .before .part-from .ensures .0)) in
+    _ (sym (f .find .ensures) ∙ c .before .before .before .before .before .before .before .k .given .1)
+    _ (c .before .before .copy-page .ensures ∙ payload-part (part .result .now) _ (part .ensures .0)) in
     (r .code-is, r .buffer-is)
 
 pub read-page-spec : {M : Type 1} → statement M
@@ -95,6 +104,9 @@ read-page-spec =
     enum-told
     returns-3
     part-from-requires
-    copy-payload-requires
+    sub-copy-page
+    part-copy-page-start
+    part-copy-page-end
+    copy-page-requires
     same-length
     returns-4)
