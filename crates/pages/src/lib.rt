@@ -1,6 +1,7 @@
 // Reads and saves of one page, on a partition that refusals 1 to 5 don't apply to.
 use bitmap::Found;
 use journal::copy_page;
+use loads::little8;
 use measures::Measures;
 use partition::blocks::find;
 use partition::blocks::part_from;
@@ -10,6 +11,7 @@ ghost use mathlib.Core.Bool.{true, cond};
 ghost use Prim.Native.Nat.{_≤_};
 ghost use lib.Dec.{eqb};
 ghost use lib.ListN.{length};
+ghost use Rattle.words.specs.Words.{sameBytes};
 ghost use Rattle.flash_model.specs.Measures.{legalNumber, topNumber};
 ghost use Rattle.flash_model.specs.Partition.{row};
 ghost use Rattle.flash_model.specs.Update.{appendBlock, saved};
@@ -50,6 +52,24 @@ fn wrong_lengths(expected: &[u8], page: &[u8]) -> bool
     expected.len() != 60
 }
 
+// Whether a run is the same as a page: seven words of eight bytes, and four bytes. Over all 60 bytes `same` is compiled to steps of
+// eight with more between them than in them.
+fn same_page(page: &[u8], other: &[u8]) -> bool
+    requires { ⌜ length (now page) ≡ 60 ⌝ }
+    ensures { λ r. ⌜ r ≡ sameBytes (now (page .entry)) (now (other .entry)) ⌝ }
+{
+    if other.len() != 60 {
+        return false;
+    }
+    let mut alike = true;
+    let mut i: usize = 0;
+    while i < 56 {
+        alike = alike & (little8(page, i) == little8(other, i));
+        i += 8;
+    }
+    alike & same(&page[56..60], &other[56..60])
+}
+
 // 9 where the contents of the number are not what is expected, 0 bytes being nothing; else 0.
 fn changed(image: &[u8], m: Measures, used: usize, number: usize, expected: &[u8]) -> u8
     requires { ⌜ Usable (now image) (m .size) used ⌝ }
@@ -67,7 +87,7 @@ fn changed(image: &[u8], m: Measures, used: usize, number: usize, expected: &[u8
         return 9;
     };
     let block = part_from(image, m, k);
-    if same(&block[2..62], expected) {
+    if same_page(&block[2..62], expected) {
         return 0;
     }
     9
