@@ -18,7 +18,8 @@ use Rattle.partition.specs.Usable.{Usable}
 use Rattle.listing.specs.Listing.{Blank, keptBlocks}
 use Rattle.partition.proofs.UsableLaws.{usable-measured}
 use Rattle.moving.specs.Moving.{AllMoved}
-use Rattle.compaction.proofs.KeptLaws.{kept-holders, kept-others}
+use Rattle.listing.proofs.HolderLaws.{kept-holders}
+use Rattle.compaction.proofs.KeptLaws.{kept-others}
 use Rattle.compaction.proofs.RewriteLaws.{finished, front-more}
 
 module _ (image : List ℕ) (size count : ℕ) (u : Usable image size count) (area : List ℕ) (blank : Blank area) (moved : List ℕ) (next : ℕ) where
@@ -68,6 +69,6 @@ module _ (image : List ℕ) (size count : ℕ) (u : Usable image size count) (ar
         (ap (take ((next + 1) * 64)) w ∙ front-more image moved (newBlock n page) (otherHolders image n) next fits (new-length n page l) front)
         (omega (arith, others-next, length-append (otherHolders image n) (newBlock n page ∷ [])))
 
--- a legal number has its entry
+-- a legal number has its place in the area
 pub number-low : (image : List ℕ) (size count : ℕ) → Usable image size count → (n : ℕ) → n ≤ topNumber size → n < capacity size
 number-low image size count u n h = omega (arith, h, usable-measured image size count u .top-number)

@@ -1,20 +1,13 @@
 -- What moving, writing and finishing come to: the compacted image. Assumes nothing.
 use Prim.Native.Nat.{ℕ, suc, _+_, _*_, _-_, _≤_}
-use mathlib.Core.Path.{_≡_, refl, _∙_}
-use mathlib.Core.Bool.{true}
+use mathlib.Core.Path.{_≡_, _∙_}
 use mathlib.Core.List.{List, [], _∷_, _++_, append-assoc}
 use native.Mathlib.Omega.{arith}
-use lib.Dec.{leb}
 use lib.ListN.{length, take, drop, replicate, length-append}
 use lib.Seq.{take-at, length-take-le}
-use borrow.Author.Tests.{leb-true}
 use Rattle.words.specs.Lists.{concat}
 use Rattle.words.proofs.JoinLaws.{concat-snoc}
-use Rattle.flash_model.specs.Measures.{sizes, legalSize, blocks, bitmapBlocks, firstBitmap, capacity}
-use Rattle.flash_model.proofs.MeasureLaws.{in-table}
 use Rattle.flash_model.specs.Update.{bitsCleared, withBlock, rewritten, compacted}
-use Rattle.listing.specs.Listing.{Blank}
-use Rattle.listing.proofs.PlaceLaws.{blank-new}
 
 -- the front is the header block and the kept blocks, all else FF, and the bits of the kept blocks are cleared
 pub finished : (image front : List ℕ) (kept : List (List ℕ)) (size next : ℕ) → length image ≡ size → front ≡ take 64 image ++ concat kept → next ≡ suc (length kept)
@@ -35,15 +28,3 @@ front-more image moved new kept next h l e =
     let b : length (take (next * 64) moved ++ new) ≡ (next + 1) * 64 = length-append (take (next * 64) moved) new ∙ omega (arith, a, l) in
     take-at (take (next * 64) moved ++ new) (drop (next * 64 + 64) moved) ((next + 1) * 64) b
     ∙ rw (e, concat-snoc kept new) (append-assoc (take 64 image) (concat kept) new)
-
--- the area has an entry for each number of any partition: computed over the table of lengths
-pub numbers-enough : (size : ℕ) → legalSize size ≡ true → capacity size ≤ 1021
-unfolding legalSize sizes capacity firstBitmap blocks bitmapBlocks
-numbers-enough size h = leb-true (capacity size) 1021 (in-table (λ n. leb (capacity n) 1021) sizes refl size h)
-
--- an area as it is made
-abbrev pub blankArea : List ℕ
-blankArea = replicate 1021 0
-
-pub new-area : Blank blankArea
-new-area = blank-new 1021

@@ -3,7 +3,6 @@ use crate::Counts;
 use crate::LiveNumber;
 use listing::Next;
 use measures::Measures;
-use measures::NUMBERS;
 ghost use mathlib.Core.Path.{_≡_};
 ghost use Rattle.flash_model.specs.Partition.{lowestLive};
 ghost use Rattle.partition.specs.Usable.{Usable};
@@ -13,8 +12,7 @@ pub(crate) fn count_blocks(image: &[u8], m: Measures, used: usize) -> Counts
     requires { ⌜ Usable (now image) (m .size) used ⌝ }
     ensures { λ r. ⌜ r ≡ countsOf (now (image .entry)) ⌝ }
 {
-    let mut area = [0u16; NUMBERS];
-    let live = listing::list_places(image, m, used, &mut area);
+    let live = listing::count_live(image, m, used);
     Counts {
         version: image[17],
         capacity: m.capacity(),

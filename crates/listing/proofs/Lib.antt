@@ -1,3 +1,5 @@
-pub mod PlaceLaws
+pub mod AreaLaws
+pub mod MarkLaws
 pub mod NextLaws
-pub mod EnteredLaws
+pub mod ListedLaws
+pub mod HolderLaws

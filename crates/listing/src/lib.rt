@@ -6,18 +6,18 @@ use distances::seen_in_eight;
 use lowering::lower_eight;
 use lowering::lower_in;
 use measures::Measures;
+use measures::NUMBERS;
 use partition::blocks::part_from;
 use partition::blocks::right_checksum;
 use words::word;
 ghost use mathlib.Core.Path.{_≡_};
-ghost use mathlib.Core.Bool.{cond};
-ghost use mathlib.Core.List.{_++_};
 ghost use Prim.Native.Nat.{_-_, _≤_, _<_};
-ghost use lib.ListN.{length, take, drop};
+ghost use lib.ListN.{length, take, drop, set};
 ghost use Rattle.flash_model.specs.Measures.{capacity};
+ghost use Rattle.flash_model.specs.UserBlock.{number};
 ghost use Rattle.flash_model.specs.Partition.{live, lowestLive};
 ghost use Rattle.partition.specs.Usable.{Usable};
-ghost use Rattle.listing.specs.Listing.{places, keptBlocks, Blank, enters, placed, asNext};
+ghost use Rattle.listing.specs.Listing.{isNew, mark, keptBlocks, asNext};
 
 // A logical number, or none.
 pub enum Next {
@@ -25,56 +25,55 @@ pub enum Next {
     Nothing,
 }
 
-// Enters block k, which begins the part, at its number, if the number is below `end` and has no entry yet and the checksum is
-// right, which is worked only then. The answer is how many blocks were entered.
-fn enter(part: &[u8], k: u16, end: usize, area: &mut [u16]) -> usize
+// Whether the block that begins the part may be one to enter: its number is below `end` and has no mark. No checksum is worked
+// for one that may not.
+fn is_new(part: &[u8], end: usize, area: &[u8]) -> bool
     requires { ⌜ (64 ≤ length (now part)) × (end ≤ length (now area)) ⌝ }
-    ensures { λ r. ⌜ (r ≡ cond (enters end (take 64 (now (part .entry))) (now (area .entry))) 1 0) × (r ≤ 1) ⌝ }
-    ensures { λ _. ⌜ now (area .exit) ≡ placed end k (take 64 (now (part .entry))) (now (area .entry)) ⌝ }
+    ensures { λ r. ⌜ r ≡ isNew end (take 64 (now (part .entry))) (now (area .entry)) ⌝ }
 {
     let number = word(part, 0);
     if end <= number {
-        return 0;
+        return false;
     }
-    if area[number] != 0 {
-        return 0;
-    }
-    if right_checksum(part) {
-        area[number] = k;
-        return 1;
-    }
-    0
+    area[number] == 0
 }
 
-// Fills an area with the physical block of each number's contents, and counts these. Blocks go in falling order, so the first of
-// a number that has a right checksum is the one, and no checksum is worked for an older copy.
-pub fn list_places(image: &[u8], m: Measures, used: usize, area: &mut [u16]) -> usize
+// Marks the number of the block that begins the part, which has no mark, if the checksum is right. The mark, 1 or 0, is stored in
+// any case, so that no branch waits for the checksum. The answer is how many numbers were marked.
+fn enter(part: &[u8], area: &mut [u8]) -> usize
+    requires { ⌜ (64 ≤ length (now part)) × (number (take 64 (now part)) < length (now area)) ⌝ }
+    ensures { λ r. ⌜ (r ≡ mark (take 64 (now (part .entry)))) × (r ≤ 1) ⌝ }
+    ensures { λ r. ⌜ now (area .exit) ≡ set (now (area .entry)) (number (take 64 (now (part .entry)))) r ⌝ }
+{
+    let mark: u8 = if right_checksum(part) { 1 } else { 0 };
+    area[word(part, 0)] = mark;
+    mark as usize
+}
+
+// How many numbers have contents. Blocks go in falling order, so the first of a number that has a right checksum is the one, and
+// no checksum is worked for an older copy.
+pub fn count_live(image: &[u8], m: Measures, used: usize) -> usize
     requires { ⌜ Usable (now image) (m .size) used ⌝ }
-    requires { ⌜ capacity (m .size) ≤ length (now area) ⌝ }
-    requires { ⌜ Blank (now area) ⌝ }
-    ensures { λ _. ⌜ now (area .exit) ≡ places (now (image .entry)) ++ drop (capacity (m .size)) (now (area .entry)) ⌝ }
     ensures { λ r. ⌜ r ≡ live (now (image .entry)) ⌝ }
 {
+    let mut area = [0u8; NUMBERS];
     let end = m.capacity();
     let mut count: usize = 0;
     let mut k = used;
     while 0 < k {
-        count += enter(part_from(image, m, k), k as u16, end, area);
+        let part = part_from(image, m, k);
+        if is_new(part, end, &area) {
+            count += enter(part, &mut area);
+        }
         k -= 1;
     }
     count
 }
 
-// Lists at the end of `kept`, rising, the physical block of the contents of each number that the area has no entry for, and
-// counts these. Every block is stored in front of the list, and the list begins with it where it is entered: the store needs no
-// test of its own.
-pub fn list_kept(
-    image: &[u8],
-    m: Measures,
-    used: usize,
-    area: &mut [u16],
-    kept: &mut [u16],
-) -> usize
+// Lists at the end of `kept`, rising, the physical block of the contents of each number that the area has no mark for, and counts
+// these. Each block that may be entered is stored in front of the list, and the list begins with it where it is entered: the
+// store does not wait for the checksum either.
+pub fn list_kept(image: &[u8], m: Measures, used: usize, area: &mut [u8], kept: &mut [u16]) -> usize
     requires { ⌜ Usable (now image) (m .size) used ⌝ }
     requires { ⌜ (capacity (m .size) ≤ length (now area)) × (capacity (m .size) ≤ length (now kept)) ⌝ }
     ensures { λ r. ⌜ r ≤ used ⌝ }
@@ -84,9 +83,11 @@ pub fn list_kept(
     let mut count: usize = 0;
     let mut k = used;
     while 0 < k {
-        let block = k as u16;
-        kept[kept.len() - count - 1] = block;
-        count += enter(part_from(image, m, k), block, end, area);
+        let part = part_from(image, m, k);
+        if is_new(part, end, &area[..]) {
+            kept[kept.len() - count - 1] = k as u16;
+            count += enter(part, area);
+        }
         k -= 1;
     }
     count

@@ -5,13 +5,13 @@ use native.Mathlib.Omega.{arith}
 use lib.ListN.{length-set}
 use Rattle.flash_model.specs.Measures.{capacity}
 use Rattle.partition.proofs.UsableLaws.{usable-legal, usable-over, usable-measured}
-use Rattle.compaction.proofs.RewriteLaws.{numbers-enough, blankArea, new-area}
+use Rattle.listing.proofs.AreaLaws.{numbers-enough, blankArea, new-area}
 use Rattle.compaction.proofs.CompactionLaws.{others-high, compact-is, number-low}
 use borrow.Author.Needs.{needs}
 use Rattle.compaction.proofs.compact.Statement.{statement}
 use Rattle.compaction.proofs.compact.Tie as tie
 
--- the saved number has its entry in the area
+-- the saved number has its place in the area
 inside : (a : tie.Start) → a .args .number < 1021
 inside a =
     let i = a .args .image .now in
@@ -24,9 +24,6 @@ room k =
     let a = k .before .before .before .before .before in
     others-high (a .args .image .now) (a .args .m .size) (a .args .used) (a .pre .0) blankArea new-area _ (k .keep-contents .result) (a .args .number) (a .args .page .now) (a .pre .1 .0) (a .pre .1 .1) (inside a)
     _ (k .keep-contents .ensures) refl
-
-mul-area : tie.Need-mul-area
-mul-area c = omega (arith, inside (c .before .before))
 
 array-write-area : tie.Need-array-write-area
 array-write-area c = inside (c .before .before)
@@ -81,7 +78,6 @@ pub compact-spec : {M : Type 1} → statement M
 compact-spec =
     tie.close
     (tie.spec
-    mul-area
     array-write-area
     slice-aggregate-keep-contents
     keep-contents-requires

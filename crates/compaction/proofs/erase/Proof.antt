@@ -2,7 +2,7 @@
 use mathlib.Core.Path.{_∙_}
 use native.Mathlib.Omega.{arith}
 use Rattle.partition.proofs.UsableLaws.{usable-legal, usable-over}
-use Rattle.compaction.proofs.RewriteLaws.{numbers-enough, new-area}
+use Rattle.listing.proofs.AreaLaws.{numbers-enough, new-area}
 use Rattle.compaction.proofs.CompactionLaws.{erase-low, erase-high, erase-is}
 use borrow.Author.Needs.{needs}
 use Rattle.compaction.proofs.erase.Statement.{statement}

@@ -7,7 +7,7 @@ use lib.ListN.{length, take, drop}
 use Rattle.listing.specs.Listing.{keptBlocks}
 use Rattle.moving.specs.Moving.{RisingBlocks, AllMoved}
 use Rattle.partition.proofs.UsableLaws.{usable-legal, count-most}
-use Rattle.compaction.proofs.RewriteLaws.{numbers-enough}
+use Rattle.listing.proofs.AreaLaws.{numbers-enough}
 use Rattle.compaction.proofs.KeptLaws.{kept-rise, part-is}
 use borrow.Author.Needs.{needs}
 use Rattle.compaction.proofs.keep_contents.Statement.{statement}
