@@ -12,6 +12,11 @@ use Rattle.flash_model.specs.Partition.{blockAt}
 pub record Clear (image : List ℕ) (start least from to : ℕ) : Type 0 where
   pub not-nearer : (j : ℕ) → from ≤ j → j < to → start ≤ number (blockAt image j) → start + least ≤ number (blockAt image j)
 
+-- k is a used block and has the number.
+pub record Numbered (image : List ℕ) (used k n : ℕ) : Type 0 where
+  pub within : k ≤ used
+  pub same : number (blockAt image k) ≡ n
+
 -- Some user block below k has the number and a right checksum.
 pub record Seen (image : List ℕ) (k n : ℕ) : Type 0 where
   pub at : ℕ

@@ -1,17 +1,15 @@
 // How far the numbers of the used blocks lie above a start: the least distance, found without any checksum.
 use measures::Measures;
-use partition::blocks::holds_number;
 use partition::blocks::part_from;
 use std::num::wrapping_sub_u16;
 use words::word;
 ghost use mathlib.Core.Path.{_≡_};
-ghost use mathlib.Core.Bool.{true};
 ghost use Prim.Native.Nat.{_+_, _%_, _^_, _≤_};
 ghost use lib.ListN.{length, take};
 ghost use Rattle.flash_model.specs.Measures.{capacity};
 ghost use Rattle.flash_model.specs.UserBlock.{number};
 ghost use Rattle.bitmap.specs.Over.{Over};
-ghost use Rattle.distances.specs.Numbers.{Clear, Seen};
+ghost use Rattle.distances.specs.Numbers.{Clear, Numbered};
 
 // The distance of the block that begins this part: its number less the start, in 16 bits. Numbers below the start come last.
 fn distance(part: &[u8], start: u16) -> u16
@@ -75,7 +73,8 @@ pub struct Near {
     pub at: usize,
 }
 
-// The least distance of the used blocks, which are taken by eights. None is below 0, so the pass ends there.
+// The least distance of the used blocks, which are taken by eights. None is below 0, so the pass ends there; that is tested only
+// where the distance falls, which is seldom.
 pub fn nearest(image: &[u8], m: Measures, used: usize, start: u16) -> Near
     requires { ⌜ Over (now image) (m .size) ⌝ }
     requires { ⌜ used ≤ capacity (m .size) ⌝ }
@@ -87,10 +86,10 @@ pub fn nearest(image: &[u8], m: Measures, used: usize, start: u16) -> Near
     let mut k: usize = 1;
     while k + 7 <= used {
         let here = least_of_eight(image, m, k, start);
-        if here == 0 {
-            return Near { least: 0, at: k };
-        }
         if here < least {
+            if here == 0 {
+                return Near { least: 0, at: k };
+            }
             least = here;
             at = k;
         }
@@ -106,23 +105,23 @@ pub fn nearest(image: &[u8], m: Measures, used: usize, start: u16) -> Near
     }
 }
 
-// Whether one of the used blocks among the eight from `from` on has the number and a right checksum.
-pub fn seen_in_eight(image: &[u8], m: Measures, used: usize, from: usize, number: usize) -> bool
+// The first of the used blocks among the eight from `from` on that has the number; 0 where none has.
+pub fn first_of_eight(image: &[u8], m: Measures, used: usize, from: usize, number: usize) -> usize
     requires { ⌜ Over (now image) (m .size) ⌝ }
     requires { ⌜ used ≤ capacity (m .size) ⌝ }
-    requires { ⌜ (1 ≤ from) × (from ≤ used + 1) ⌝ }
-    ensures { λ r. ⌜ (r ≡ true → Seen (now (image .entry)) (used + 1) number) ⌝ }
+    requires { ⌜ from ≤ used + 1 ⌝ }
+    ensures { λ r. ⌜ (1 ≤ r → Numbered (now (image .entry)) used r number) ⌝ }
 {
     let to = from + 8;
     let mut k = from;
     while k < to {
         if used < k {
-            return false;
+            return 0;
         }
-        if holds_number(part_from(image, m, k), number) {
-            return true;
+        if word(part_from(image, m, k), 0) == number {
+            return k;
         }
         k += 1;
     }
-    false
+    0
 }

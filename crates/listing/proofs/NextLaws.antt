@@ -19,9 +19,9 @@ use Rattle.flash_model.proofs.MeasureLaws.{legal-below}
 use Rattle.flash_model.proofs.HolderLaws.{matches}
 use Rattle.flash_model.proofs.MeaningLaws.{next-live, live-none}
 use Rattle.partition.specs.Usable.{Usable}
-use Rattle.distances.specs.Numbers.{Clear, Seen}
+use Rattle.distances.specs.Numbers.{Clear, Numbered, Seen}
 use Rattle.listing.specs.Listing.{lowered, asNext}
-use Rattle.listing.specs.Best.{Best}
+use Rattle.listing.specs.Best.{LeftOut, Best}
 use Rattle.partition.proofs.UsableLaws.{usable-measured, holder-some}
 
 -- ---- one block
@@ -46,6 +46,9 @@ module _ (start best n : ℕ) (block : List ℕ) (e : number block ≡ n) where
   lowered-wrong r = rw (r, and-false, and-false)
 
 -- ---- all blocks passed so far
+
+pub seen-at : (image : List ℕ) (used k n : ℕ) → 1 ≤ k → Numbered image used k n → rightChecksum (blockAt image k) ≡ true → Seen image (used + 1) n
+seen-at image used k n lo h r = record { at = k; low = lo; below = omega (arith, h .within); here = rw (eq-eqb (number (blockAt image k)) n (h .same), r) }
 
 pub best-first : (image : List ℕ) (start end : ℕ) → Best image start end 1 end
 best-first image start end = record {
@@ -75,12 +78,19 @@ module _ (image : List ℕ) (start end k best : ℕ) (b : Best image start end k
       go n j a c d e (yes q) = ap (λ (i : ℕ). matches n (blockAt image i)) q ∙ h n a c
       go n j a c d e (no q) = b .none-lower n j a c d (omega (arith, e, q))
 
+  wrong-kept : rightChecksum (blockAt image k) ≡ false → Best image start end (k + 1) best
+  wrong-kept r = kept (λ n h l. rw r (and-false (eqb (number (blockAt image k)) n)))
+
+  pub best-left-out : (out : ℕ) → LeftOut image out → k ≡ out → 1 ≤ k → (best′ : ℕ) → best′ ≡ best → Best image start end (k + 1) best′
+  best-left-out out o same lo best′ e =
+      subst (Best image start end (k + 1)) (sym e) (wrong-kept (ap (λ (j : ℕ). rightChecksum (blockAt image j)) same ∙ o .wrong (omega (arith, lo, same))))
+
   -- the block's number is the new best
   taken : 1 ≤ k → start ≤ number (blockAt image k) → number (blockAt image k) < best → rightChecksum (blockAt image k) ≡ true → Best image start end (k + 1) (number (blockAt image k))
   taken lo s l r = record {
     bound = omega (arith, l, b .bound);
     not-below = λ h. s;
-    is-seen = λ h. record { at = k; low = lo; below = omega arith; here = rw (eq-eqb (number (blockAt image k)) (number (blockAt image k)) refl, r) };
+    is-seen = λ h. seen-at image k k (number (blockAt image k)) lo (record { within = omega arith; same = refl }) r;
     none-lower = λ n j a c d e. go n j a c d e (ℕ-discrete j k);
   }
     where
@@ -98,7 +108,7 @@ module _ (image : List ℕ) (start end k best : ℕ) (b : Best image start end k
       go : (t : Bool) → leb start (number (blockAt image k)) ≡ t → (u : Bool) → ltb (number (blockAt image k)) best ≡ u → (v : Bool) → rightChecksum (blockAt image k) ≡ v
           → Best image start end (k + 1) (cond (t && (u && v)) (number (blockAt image k)) best)
       go true a true c true d = taken lo (leb-true start (number (blockAt image k)) a) (ltb-true (number (blockAt image k)) best c) d
-      go true a true c false d = kept (λ n h l. rw d (and-false (eqb (number (blockAt image k)) n)))
+      go true a true c false d = wrong-kept d
       go true a false c v d = kept (λ n h l. rw (ne-eqb (number (blockAt image k)) n (λ z. omega (arith, z, l, ltb-false (number (blockAt image k)) best c))))
       go false a u c v d = kept (λ n h l. rw (ne-eqb (number (blockAt image k)) n (λ z. omega (arith, z, h, leb-false start (number (blockAt image k)) a))))
 

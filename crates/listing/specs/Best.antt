@@ -9,6 +9,10 @@ use Rattle.flash_model.specs.UserBlock.{number, rightChecksum}
 use Rattle.flash_model.specs.Partition.{blockAt}
 use Rattle.distances.specs.Numbers.{Seen}
 
+-- A search may leave block k out: it is no user block, or its checksum is wrong.
+pub record LeftOut (image : List ℕ) (k : ℕ) : Type 0 where
+  pub wrong : 1 ≤ k → rightChecksum (blockAt image k) ≡ false
+
 -- Where the blocks below k are passed: the lowest of their numbers from the start on that a right checksum has, or the end.
 pub record Best (image : List ℕ) (start end k best : ℕ) : Type 0 where
   pub bound : best ≤ end

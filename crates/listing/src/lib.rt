@@ -1,8 +1,8 @@
 // One pass over the used blocks for whatever looks at all numbers.
 mod lowering;
 
+use distances::first_of_eight;
 use distances::nearest;
-use distances::seen_in_eight;
 use lowering::lower_eight;
 use lowering::lower_in;
 use measures::Measures;
@@ -18,6 +18,7 @@ ghost use Rattle.flash_model.specs.UserBlock.{number};
 ghost use Rattle.flash_model.specs.Partition.{live, lowestLive};
 ghost use Rattle.partition.specs.Usable.{Usable};
 ghost use Rattle.listing.specs.Listing.{isNew, mark, keptBlocks, asNext};
+ghost use Rattle.listing.specs.Best.{LeftOut};
 
 // A logical number, or none.
 pub enum Next {
@@ -93,20 +94,21 @@ pub fn list_kept(image: &[u8], m: Measures, used: usize, area: &mut [u8], kept: 
     count
 }
 
-// The lowest live number not below the start, whatever checksums are wrong.
-fn lowest_right(image: &[u8], m: Measures, used: usize, start: usize) -> Next
+// The lowest live number not below the start, whatever checksums are wrong. That of the block `wrong`, if not 0, is known to be.
+fn lowest_right(image: &[u8], m: Measures, used: usize, start: usize, wrong: usize) -> Next
     requires { ⌜ Usable (now image) (m .size) used ⌝ }
     requires { ⌜ start < capacity (m .size) ⌝ }
+    requires { ⌜ LeftOut (now image) wrong ⌝ }
     ensures { λ r. ⌜ r ≡ asNext (lowestLive (now (image .entry)) start) ⌝ }
 {
     let end = m.capacity();
     let mut best = end;
     let mut k: usize = 1;
     while k + 7 <= used {
-        best = lower_eight(image, m, k, start, best);
+        best = lower_eight(image, m, k, start, best, wrong);
         k += 8;
     }
-    best = lower_in(image, m, k, used + 1, start, best);
+    best = lower_in(image, m, k, used + 1, start, best, wrong);
     if best < end {
         Next::Number(best)
     } else {
@@ -129,8 +131,9 @@ pub fn next_number(image: &[u8], m: Measures, used: usize, start: usize) -> Next
     if end <= number {
         return Next::Nothing;
     }
-    if seen_in_eight(image, m, used, near.at, number) {
+    let k = first_of_eight(image, m, used, near.at, number);
+    if (0 < k) && right_checksum(part_from(image, m, k)) {
         return Next::Number(number);
     }
-    lowest_right(image, m, used, start)
+    lowest_right(image, m, used, start, k)
 }

@@ -30,7 +30,7 @@ returns c = (clear-at-start _ _ _ _, (omega arith, omega arith))
 
 add-k : tie.Need-add-k Inv-loop μ-loop
 add-k c =
-    let a = c .before .before .before .before .before .before in
+    let a = c .before .before .before .before .before in
     omega (arith, over-measured (a .args .image .now) (a .args .m .size) (a .pre .0) .two-bytes)
 
 loop-less : tie.Need-loop-less Inv-loop μ-loop
@@ -38,12 +38,12 @@ loop-less c = omega arith
 
 loop-again : tie.Need-loop-again Inv-loop μ-loop
 loop-again c =
-    let g = c .before .before in
+    let g = c .before in
     let l = g .before .before in
-    let most : c .if2 .least ≤ l .loop .least = ⊎-elim (λ w. omega arith) (λ w. omega arith) (c .if2 .came) in
-    let most-here : c .if2 .least ≤ g .least-of-eight .result = ⊎-elim (λ w. omega arith) (λ w. omega arith) (c .if2 .came) in (
-      clear-joined _ _ (l .loop .least) _ (l .loop .k) (l .loop .inv .0) (g .least-of-eight .result) _ (c .if2 .least) (g .least-of-eight .ensures) most most-here,
-      ⊎-elim (λ w. (omega arith, omega arith)) (λ w. (omega arith, omega arith)) (c .if2 .came),
+    let most : c .if1 .least ≤ l .loop .least = ⊎-elim (λ w. omega arith) (λ w. omega arith) (c .if1 .came) in
+    let most-here : c .if1 .least ≤ g .least-of-eight .result = ⊎-elim (λ w. omega arith) (λ w. omega arith) (c .if1 .came) in (
+      clear-joined _ _ (l .loop .least) _ (l .loop .k) (l .loop .inv .0) (g .least-of-eight .result) _ (c .if1 .least) (g .least-of-eight .ensures) most most-here,
+      ⊎-elim (λ w. (omega arith, omega arith)) (λ w. (omega arith, omega arith)) (c .if1 .came),
       (omega arith, omega arith),
     )
 

@@ -8,10 +8,10 @@ use Rattle.listing.proofs.lowest_right.Statement.{statement}
 use Rattle.listing.proofs.lowest_right.Tie as tie
 
 abbrev Inv-loop : tie.InvT-loop
-Inv-loop image m used start end best₀ k₀ best k = (1 ≤ k) × (k ≤ used + 1) × Best image start end k best
+Inv-loop image m used start wrong end best₀ k₀ best k = (1 ≤ k) × (k ≤ used + 1) × Best image start end k best
 
 abbrev μ-loop : tie.MeasureT-loop
-μ-loop image m used start end best₀ k₀ best k = used + 1 - k
+μ-loop image m used start wrong end best₀ k₀ best k = used + 1 - k
 
 capacity-requires : tie.Need-capacity-requires Inv-loop μ-loop
 capacity-requires c κs =
@@ -34,7 +34,7 @@ lower-eight-requires c κs =
     let a = c .before .before .before .before in
     let i = a .args .image .now in (
       usable-over i (a .args .m .size) (a .args .used) (a .pre .0),
-      (omega arith, omega (arith, count-most i (a .args .m .size) (a .args .used) (a .pre .0)), a .pre .1),
+      ((omega arith, omega (arith, count-most i (a .args .m .size) (a .args .used) (a .pre .0)), a .pre .1 .0), a .pre .1 .1),
     )
 
 add-k : tie.Need-add-k Inv-loop μ-loop
@@ -62,7 +62,7 @@ lower-in-requires c κs =
     let a = c .before .before .before .before in
     let i = a .args .image .now in (
       usable-over i (a .args .m .size) (a .args .used) (a .pre .0),
-      (omega arith, omega arith, omega (arith, count-most i (a .args .m .size) (a .args .used) (a .pre .0))),
+      ((omega arith, omega arith, omega (arith, count-most i (a .args .m .size) (a .args .used) (a .pre .0))), a .pre .1 .1),
     )
 
 returns : tie.Need-returns Inv-loop μ-loop

@@ -9,7 +9,7 @@ use Rattle.listing.proofs.lowering.lower_eight.Tie as tie
 cast-least-of-eight : tie.Need-cast-least-of-eight
 cast-least-of-eight c =
     let a = c .before in
-    omega (arith, a .pre .1 .2, over-measured (a .args .image .now) (a .args .m .size) (a .pre .0) .two-bytes)
+    omega (arith, a .pre .1 .0 .2, over-measured (a .args .image .now) (a .args .m .size) (a .pre .0) .two-bytes)
 
 least-of-eight-requires : tie.Need-least-of-eight-requires
 least-of-eight-requires c κs = search needs
@@ -20,7 +20,7 @@ cast-if1 c = search needs
 add-if1 : tie.Need-add-if1
 add-if1 c =
     let a = c .before .before in
-    omega (arith, a .pre .1 .2, over-measured (a .args .image .now) (a .args .m .size) (a .pre .0) .two-bytes)
+    omega (arith, a .pre .1 .0 .2, over-measured (a .args .image .now) (a .args .m .size) (a .pre .0) .two-bytes)
 
 returns : tie.Need-returns
 returns c =
@@ -31,10 +31,12 @@ returns c =
 add-lower-in : tie.Need-add-lower-in
 add-lower-in c =
     let a = c .before .before .before in
-    omega (arith, a .pre .1 .1, over-measured (a .args .image .now) (a .args .m .size) (a .pre .0) .two-bytes)
+    omega (arith, a .pre .1 .0 .1, over-measured (a .args .image .now) (a .args .m .size) (a .pre .0) .two-bytes)
 
 lower-in-requires : tie.Need-lower-in-requires
-lower-in-requires c κs = search needs
+lower-in-requires c κs =
+    let a = c .before .before .before in
+    (a .pre .0, ((a .pre .1 .0 .0, omega arith, omega (arith, a .pre .1 .0 .1)), a .pre .1 .1))
 
 returns-2 : tie.Need-returns-2
 returns-2 c = search needs
