@@ -40,3 +40,9 @@ module _ (image : List ℕ) (start : ℕ) where
         go : (j : ℕ) → from ≤ j → j < to → start ≤ number (blockAt image j) → Dec (k ≤ j) → start + lower ≤ number (blockAt image j)
         go j a b s (yes y) = omega (arith, d .not-nearer j y b s)
         go j a b s (no n) = omega (arith, c .not-nearer j a (omega arith) s)
+
+  -- the blocks from `mid` on too, where some of these are passed already
+  pub clear-overlapped : (least from k : ℕ) → Clear image start least from k → (mid here to lower end : ℕ) → mid ≤ k → end ≤ to → Clear image start here mid to → lower ≤ least → lower ≤ here
+      → Clear image start lower from end
+  clear-overlapped least from k c mid here to lower end m e d l h =
+      clear-fewer lower from to (clear-joined least from mid (clear-fewer least from k c mid m) here to lower d l h) end e

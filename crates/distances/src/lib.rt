@@ -73,14 +73,20 @@ pub struct Near {
     pub at: usize,
 }
 
-// The least distance of the used blocks, which are taken by eights. None is below 0, so the pass ends there; that is tested only
-// where the distance falls, which is seldom.
+// The least distance of the used blocks, which are taken by eights; the last eight are always taken too, so that none is left over.
+// None is below 0, so the pass ends there; that is tested only where the distance falls, which is seldom.
 pub fn nearest(image: &[u8], m: Measures, used: usize, start: u16) -> Near
     requires { ⌜ Over (now image) (m .size) ⌝ }
     requires { ⌜ used ≤ capacity (m .size) ⌝ }
     ensures { λ r. ⌜ Clear (now (image .entry)) start (r .least) 1 (used + 1) ⌝ }
     ensures { λ r. ⌜ (1 ≤ r .at) × (r .at ≤ used + 1) ⌝ }
 {
+    if used < 8 {
+        return Near {
+            least: least_in(image, m, 1, used + 1, start),
+            at: 1,
+        };
+    }
     let mut least = u16::MAX;
     let mut at: usize = 1;
     let mut k: usize = 1;
@@ -95,9 +101,13 @@ pub fn nearest(image: &[u8], m: Measures, used: usize, start: u16) -> Near
         }
         k += 8;
     }
-    let here = least_in(image, m, k, used + 1, start);
+    let last = used - 7;
+    let here = least_of_eight(image, m, last, start);
     if here < least {
-        return Near { least: here, at: k };
+        return Near {
+            least: here,
+            at: last,
+        };
     }
     Near {
         least: least,
