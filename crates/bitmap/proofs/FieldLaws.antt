@@ -1,51 +1,86 @@
--- Several bits of a number at once: they are all 1 where the number that they make is the largest. Assumes nothing.
-use Prim.Native.Nat.{ℕ, zero, suc, _+_, _*_, _-_, _%_, _^_, _≤_, _<_}
-use mathlib.Core.Path.{_≡_, sym, ap, _∙_}
-use mathlib.Core.Bool.{Bool, not, _||_}
+-- A test of the n numbers up to `to` as the n digits of a number w, the last number's as the lowest: 0 where it passes.
+-- Assumes nothing.
+use Prim.Native.Nat.{ℕ, _+_, _-_, _/_, _%_, _^_, _≤_, _<_, min}
+use mathlib.Core.Path.{_≡_, sym, ap, subst, _∙_}
+use mathlib.Core.Bool.{Bool}
 use native.Mathlib.Omega.{arith}
-use native.Mathlib.Nat.{mod-one, mod-lt, pow-succ', one-mul}
-use native.Mathlib.Decide.{ℕ-discrete}
-use lib.Dec.{eqb}
-use lib.Pow.{pow-pos, mod-pow-add, shl-exact}
-use borrow.Author.Tests.{eq-eqb, ne-eqb}
-use Rattle.words.specs.Lists.{anyOf, numbersFrom}
+use native.Mathlib.Nat.{div-lt-iff-lt-mul}
+use native.Mathlib.Decide.{decLe}
+use lib.Dec.{eqb, leb}
+use lib.Pow.{pow-pos, pow-add, shr-shr, shr-lt, field, mod-mod-pow}
+use borrow.Author.Tests.{le-leb, lt-leb}
 use Rattle.flash_model.proofs.BitLaws.{bit}
+use Rattle.flash_model.proofs.SequenceLaws.{UpTo}
+use Rattle.bitmap.proofs.OnesLaws.{ones-few, ones-digit, digits-ones}
 
--- the weight that a shift makes
-pub weight-is : (n : ℕ) → n ≤ 8 → 1 * 2 ^ n % 2 ^ 64 ≡ 2 ^ n
-weight-is n h = shl-exact {a = 1} 1 n 64 (omega arith) (omega arith) ∙ one-mul (2 ^ n)
+pub record Field (p : ℕ → Bool) (w n to : ℕ) : Type 0 where
+  pub reaches : n ≤ to
+  pub small : w < 2 ^ n
+  pub says : (j : ℕ) → j < n → p (to - j) ≡ eqb (bit j w) 0
 
-pub weight-pos : (n : ℕ) → n ≤ 8 → 0 < 1 * 2 ^ n % 2 ^ 64
-weight-pos n h = rw (weight-is n h) (pow-pos n)
+-- ---- fields side by side
 
-module _ (p : ℕ → Bool) (y to : ℕ) where
-  -- p tells which of the bits are 0, the highest first
-  pub any-field : (n from : ℕ) → from + n ≡ to → ((j : ℕ) → from ≤ j → j < to → p j ≡ eqb (bit (to - 1 - j) y) 0)
-      → anyOf p (numbersFrom from n) ≡ not (eqb (y % 2 ^ n) (2 ^ n - 1))
-  any-field zero from e bits = sym (ap not (eq-eqb (y % 2 ^ 0) (2 ^ 0 - 1) (omega (arith, mod-one y))))
-  any-field (suc n) from e bits = go (any-field n (suc from) (omega arith) (λ j a b. bits j (omega arith) b)) (ℕ-discrete (bit n y) 0)
+bit-high : (j n w : ℕ) → bit j (w / 2 ^ n) ≡ bit (n + j) w
+bit-high j n w = ap (λ (x : ℕ). x % 2) (shr-shr w n j)
+
+bit-low : (j n w : ℕ) → j < n → bit j (w % 2 ^ n) ≡ bit j w
+bit-low j n w h =
+    let e : n ≡ (n - j) + j = omega arith in
+    let f : n - j ≡ (n - j - 1) + 1 = omega arith in
+    ap (λ (i : ℕ). w % 2 ^ i / 2 ^ j % 2) e
+    ∙ ap (λ (x : ℕ). x % 2) (field w (n - j) j)
+    ∙ ap (λ (i : ℕ). w / 2 ^ j % 2 ^ i % 2) f
+    ∙ mod-mod-pow (w / 2 ^ j) (n - j - 1) 1
+
+module _ (p : ℕ → Bool) (w : ℕ) where
+  -- n digits behind m
+  pub field-behind : (m n to : ℕ) → Field p (w / 2 ^ n) m to → Field p (w % 2 ^ n) n (to + n) → Field p w (m + n) (to + n)
+  field-behind m n to a b = record {
+    reaches = omega (arith, a .reaches);
+    small = subst (λ (x : ℕ). w < x) (sym (pow-add 2 m n)) (div-lt-iff-lt-mul (pow-pos n) .0 (a .small));
+    says = λ j h. go j h (decLe n j);
+  }
     where
-      first : p from ≡ eqb (bit n y) 0
-      first =
-          let i : to - 1 - from ≡ n = omega arith in
-          bits from (omega arith) (omega arith) ∙ ap (λ (k : ℕ). eqb (bit k y) 0) i
+      go : (j : ℕ) → j < m + n → Dec (n ≤ j) → p (to + n - j) ≡ eqb (bit j w) 0
+      go j h (yes d) =
+          let place : to + n - j ≡ to - (j - n) = omega arith in
+          let digit : n + (j - n) ≡ j = omega arith in
+          ap p place ∙ a .says (j - n) (omega arith) ∙ ap (λ (x : ℕ). eqb x 0) (bit-high (j - n) n w ∙ ap (λ (i : ℕ). bit i w) digit)
+      go j h (no d) = b .says j (omega (arith, d)) ∙ ap (λ (x : ℕ). eqb x 0) (bit-low j n w (omega (arith, d)))
 
-      -- the highest bit and the others
-      whole : (b : ℕ) → bit n y ≡ b → y % 2 ^ suc n ≡ b * 2 ^ n + y % 2 ^ n
-      whole b z =
-          let s : suc n ≡ 1 + n = omega arith in
-          ap (λ (k : ℕ). y % 2 ^ k) s ∙ mod-pow-add y 1 n ∙ ap (λ (k : ℕ). k * 2 ^ n + y % 2 ^ n) z
+  -- without the last n
+  pub field-before : (m n to : ℕ) → Field p w (m + n) (to + n) → Field p (w / 2 ^ n) m to
+  field-before m n to a = record { reaches = omega (arith, a .reaches); small = shr-lt m n (a .small); says = go }
+    where
+      go : (j : ℕ) → j < m → p (to - j) ≡ eqb (bit j (w / 2 ^ n)) 0
+      go j h =
+          let place : to - j ≡ to + n - (n + j) = omega arith in
+          ap p place ∙ a .says (n + j) (omega arith) ∙ ap (λ (x : ℕ). eqb x 0) (sym (bit-high j n w))
 
-      go : anyOf p (numbersFrom (suc from) n) ≡ not (eqb (y % 2 ^ n) (2 ^ n - 1)) → Dec (bit n y ≡ 0)
-          → (p from || anyOf p (numbersFrom (suc from) n)) ≡ not (eqb (y % 2 ^ suc n) (2 ^ suc n - 1))
-      go ih (yes z) =
-          let w = whole 0 z in
-          let less = mod-lt y (pow-pos n) in
-          rw (first, eq-eqb (bit n y) 0 z, ne-eqb (y % 2 ^ suc n) (2 ^ suc n - 1) (λ q. omega (arith, q, w, less, pow-succ' 2 n, pow-pos n)))
-      go ih (no z) =
-          let w = whole 1 (omega arith) in
-          rw (first, ne-eqb (bit n y) 0 z) (ih ∙ ap not (same w (ℕ-discrete (y % 2 ^ n) (2 ^ n - 1))))
-        where
-          same : y % 2 ^ suc n ≡ 1 * 2 ^ n + y % 2 ^ n → Dec (y % 2 ^ n ≡ 2 ^ n - 1) → eqb (y % 2 ^ n) (2 ^ n - 1) ≡ eqb (y % 2 ^ suc n) (2 ^ suc n - 1)
-          same w (yes q) = eq-eqb (y % 2 ^ n) (2 ^ n - 1) q ∙ sym (eq-eqb (y % 2 ^ suc n) (2 ^ suc n - 1) (omega (arith, q, w, pow-succ' 2 n, pow-pos n)))
-          same w (no q) = ne-eqb (y % 2 ^ n) (2 ^ n - 1) q ∙ sym (ne-eqb (y % 2 ^ suc n) (2 ^ suc n - 1) (λ r. q (omega (arith, r, w, pow-succ' 2 n, pow-pos n))))
+  -- ---- fields of ones below zeros
+
+  module _ (n to : ℕ) (f : Field p w n to) where
+    leb-swap : (a k : ℕ) → a ≤ to → k ≤ to → leb a (to - k) ≡ leb k (to - a)
+    leb-swap a k h l = go (decLe k (to - a))
+      where
+        go : Dec (k ≤ to - a) → leb a (to - k) ≡ leb k (to - a)
+        go (yes d) = le-leb a (to - k) (omega (arith, d)) ∙ sym (le-leb k (to - a) d)
+        go (no d) = lt-leb a (to - k) (omega (arith, d)) ∙ sym (lt-leb k (to - a) (omega (arith, d)))
+
+    -- the numbers above to - a do not pass, the others do
+    pub ones-field : (a : ℕ) → w + 1 ≡ 2 ^ a → (k : ℕ) → to < k + n → k ≤ to → p k ≡ leb k (to - a)
+    ones-field a e k lo hi =
+        let place : k ≡ to - (to - k) = omega arith in
+        ap p place ∙ f .says (to - k) (omega arith) ∙ ones-digit a w e (to - k)
+        ∙ leb-swap a k (omega (arith, ones-few a w e n (f .small), f .reaches)) hi
+
+    -- exactly the numbers up to u pass
+    pub field-ones : (most u : ℕ) → UpTo p most u → to ≤ most → w + 1 ≡ 2 ^ min n (to - u)
+    field-ones most u b h = digits-ones n (min n (to - u)) w (omega arith) (f .small) digits
+      where
+        digits : (j : ℕ) → j < n → eqb (bit j w) 0 ≡ leb (min n (to - u)) j
+        digits j l = sym (f .says j l) ∙ b (to - j) (omega (arith, f .reaches)) (omega arith) ∙ go (decLe (to - j) u)
+          where
+            go : Dec (to - j ≤ u) → leb (to - j) u ≡ leb (min n (to - u)) j
+            go (yes d) = le-leb (to - j) u d ∙ sym (le-leb (min n (to - u)) j (omega (arith, d)))
+            go (no d) = lt-leb (to - j) u (omega (arith, d)) ∙ sym (lt-leb (min n (to - u)) j (omega (arith, d)))

@@ -1,5 +1,5 @@
-pub mod BitReads
-pub mod FieldLaws
 pub mod RunLaws
-pub mod RangeLaws
-pub mod AlikeLaws
+pub mod OnesLaws
+pub mod FieldLaws
+pub mod BitReads
+pub mod SequenceOfLaws

@@ -1,12 +1,12 @@
 -- What functions over an image ask of its measures, and the answer of a search for a physical block.
 -- Assumes nothing.
-use Prim.Native.Nat.{ℕ, _+_, _-_, _%_, _≤_}
+use Prim.Native.Nat.{ℕ}
 use mathlib.Core.Path.{_≡_}
 use mathlib.Core.Bool.{true}
 use mathlib.Core.List.{List}
 use mathlib.Core.Option.{Option, none, some}
 use lib.ListN.{length}
-use Rattle.flash_model.specs.Measures.{legalSize, firstBitmap}
+use Rattle.flash_model.specs.Measures.{legalSize}
 use Rattle.bitmap.specs.declared.Found.{Found}
 use Rattle.bitmap.specs.declared.Found.the-variants.{At, Nothing}
 
@@ -14,13 +14,6 @@ use Rattle.bitmap.specs.declared.Found.the-variants.{At, Nothing}
 pub record Over (image : List ℕ) (size : ℕ) : Type 0 where
   pub has-size : length image ≡ size
   pub is-legal : legalSize size ≡ true
-
--- One byte of the bitmap has the bits of the user blocks from `from` up to `to`.
-pub record InByte (size from to : ℕ) : Type 0 where
-  pub low : 1 ≤ from
-  pub rising : from ≤ to
-  pub high : to ≤ firstBitmap size
-  pub one-byte : (from - 1) % 8 + (to - from) ≤ 8
 
 abbrev pub asFound : Option ℕ → Found
 asFound none = Nothing

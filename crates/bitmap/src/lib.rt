@@ -1,21 +1,26 @@
 // The bitmap of an image: which user blocks are allocated.
 mod runs;
 
+use loads::word8;
 use measures::Measures;
-use runs::run_end;
-use words::wide;
+use runs::words_end;
 ghost use mathlib.Core.Path.{_≡_};
-ghost use Prim.Native.Nat.{_+_, _*_, _-_, _/_, _≤_};
-ghost use Rattle.words.specs.Lists.{anyOf, numbersFrom};
-ghost use Rattle.flash_model.specs.Measures.{firstBitmap, capacity};
-ghost use Rattle.flash_model.specs.Partition.{allocated, lowestFree};
-ghost use Rattle.bitmap.specs.Over.{Over, InByte, asFound};
-ghost use Rattle.bitmap.specs.Run.{Alike};
+ghost use Prim.Native.Nat.{_^_, _≤_, _<_};
+ghost use Rattle.flash_model.specs.Measures.{capacity};
+ghost use Rattle.flash_model.specs.Partition.{allocated};
+ghost use Rattle.bitmap.specs.Over.{Over};
+ghost use Rattle.bitmap.specs.InSequence.{sequenceOf, InWord};
 
 // A physical block, or none.
 pub enum Found {
     At(usize),
     Nothing,
+}
+
+// The allocated user blocks are those from 1 to so many, or one stands behind a free one.
+pub enum Sequence {
+    Whole(usize),
+    Broken,
 }
 
 // Whether user block k is allocated: its bit is 0, and block 1's is the 128-bit of the first byte.
@@ -30,72 +35,38 @@ pub fn is_allocated(image: &[u8], m: Measures, k: usize) -> bool
     (image[at] >> place) % 2 == 0
 }
 
-// From the first user block of the bitmap's byte `first` on: where the blocks end whose bytes are `byte`. Only bytes that have
-// no ignored bit are looked at.
-fn alike_end(image: &[u8], m: Measures, first: usize, byte: u8) -> usize
-    requires { ⌜ Over (now image) (m .size) ⌝ }
-    requires { ⌜ first ≤ capacity (m .size) / 8 ⌝ }
-    ensures { λ r. ⌜ Alike (now (image .entry)) byte (first * 8 + 1) r ⌝ }
+// The bits of the blocks up to `to` make w. In sequence they are ones below zeros: then w has none in common with w + 1, and the
+// ones, a free block each, are the trailing zeros of its complement.
+fn in_word(w: u64, to: usize) -> Sequence
+    requires { ⌜ w < 2 ^ to ⌝ }
+    ensures { λ r. ⌜ InWord w to r ⌝ }
 {
-    let end = m.first_bitmap();
-    let bitmap = m.start(end);
-    let at = run_end(image, bitmap + first, bitmap + (end - 1) / 8, byte);
-    (at - bitmap) * 8 + 1
+    if w & std::num::wrapping_add_u64(w, 1) != 0 {
+        return Sequence::Broken;
+    }
+    Sequence::Whole(to - u64::trailing_zeros(!w) as usize)
 }
 
-// The lowest free user block. Bytes of 0 have none, so the bits are tested from the first other byte on.
-pub fn lowest_free(image: &[u8], m: Measures) -> Found
+// How many user blocks are allocated, if none behind a free one: only one word may have bits of both kinds, those before it are
+// all 0 and those behind it all 1. The last word's ignored bits are shifted out.
+pub fn sequence_of(image: &[u8], m: Measures) -> Sequence
     requires { ⌜ Over (now image) (m .size) ⌝ }
-    ensures { λ r. ⌜ r ≡ asFound (lowestFree (now (image .entry))) ⌝ }
+    ensures { λ r. ⌜ r ≡ sequenceOf (now (image .entry)) ⌝ }
 {
-    let end = m.first_bitmap();
-    let mut k = alike_end(image, m, 0, 0);
-    while k < end {
-        if !is_allocated(image, m, k) {
-            return Found::At(k);
-        }
-        k += 1;
+    let capacity = m.capacity();
+    let at = m.start(m.first_bitmap());
+    let last = at + (capacity - 1) / 64 * 8;
+    let ignored = 63 - (capacity - 1) % 64;
+    let i = words_end(image, at, last, 0);
+    let tail = word8(image, last) >> ignored;
+    if i == last {
+        return in_word(tail, capacity);
     }
-    Found::Nothing
-}
-
-// Whether some user block from `from` up to `to` is allocated, where one byte has all their bits: these are free where the
-// number that they make is the largest.
-fn any_in_byte(image: &[u8], m: Measures, from: usize, to: usize) -> bool
-    requires { ⌜ Over (now image) (m .size) ⌝ }
-    requires { ⌜ InByte (m .size) from to ⌝ }
-    ensures { λ r. ⌜ r ≡ anyOf (allocated (now (image .entry))) (numbersFrom from (to - from)) ⌝ }
-{
-    let first = m.first_bitmap();
-    let at = m.start(first) + (from - 1) / 8;
-    let count = to - from;
-    let place = 8 - (from - 1) % 8 - count;
-    let weight = 1usize << count;
-    (wide(image[at]) >> place) % weight != weight - 1
-}
-
-// Whether some user block from `from` on is allocated: one in the rest of its byte, one in a byte behind it that is not FF, or
-// one in the last byte, which has ignored bits.
-pub fn allocated_from(image: &[u8], m: Measures, from: usize) -> bool
-    requires { ⌜ Over (now image) (m .size) ⌝ }
-    requires { ⌜ 1 ≤ from ⌝ }
-    ensures { λ r. ⌜ r ≡ anyOf (allocated (now (image .entry))) (numbersFrom from (firstBitmap (m .size) - from)) ⌝ }
-{
-    let end = m.first_bitmap();
-    if end <= from {
-        return false;
+    if words_end(image, i + 8, last, 255) < last {
+        return Sequence::Broken;
     }
-    let next = (from + 6) / 8;
-    if (end - 1) / 8 < next {
-        return any_in_byte(image, m, from, end);
+    if tail != u64::MAX >> ignored {
+        return Sequence::Broken;
     }
-    if any_in_byte(image, m, from, next * 8 + 1) {
-        return true;
-    }
-    let k = alike_end(image, m, next, 255);
-    // The byte is not FF, and has no ignored bit.
-    if k + 8 <= end {
-        return true;
-    }
-    any_in_byte(image, m, k, end)
+    in_word(word8(image, i), 8 * (i - at) + 64)
 }

@@ -9,7 +9,7 @@ use lib.Pow.{pow-pos}
 abbrev pub bit : ℕ → ℕ → ℕ
 bit j b = b / 2 ^ j % 2
 
-bit-suc : (j b : ℕ) → bit (suc j) b ≡ bit j (b / 2)
+pub bit-suc : (j b : ℕ) → bit (suc j) b ≡ bit j (b / 2)
 bit-suc j b = rw (pow-succ' 2 j, ← div-div-eq-div-mul b 2 (2 ^ j))
 
 -- a bit that is set is worth at most the number

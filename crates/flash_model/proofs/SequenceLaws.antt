@@ -1,5 +1,5 @@
 -- Blocks allocated in sequence: exactly the first ones. Assumes nothing.
-use Prim.Native.Nat.{ℕ, zero, suc, _+_, _-_, _≤_, _<_}
+use Prim.Native.Nat.{ℕ, zero, suc, _+_, _≤_, _<_}
 use mathlib.Core.Path.{_≡_, refl, sym, ap, subst, _∙_}
 use mathlib.Core.Bool.{Bool, true, false, cond, _||_, true≢false, false≢true}
 use mathlib.Core.List.{_∷_, map}
@@ -9,7 +9,6 @@ use lib.Dec.{ltb, leb}
 use lib.ListN.{length}
 use borrow.Author.Tests.{lt-ltb, le-ltb, le-leb, lt-leb, leb-true, ltb-false}
 use Rattle.words.specs.Lists.{keep, anyOf, numbersFrom}
-use Rattle.words.proofs.ListLaws.{any-map}
 use Rattle.words.proofs.Bools.{or-false-left, or-false-right}
 use Rattle.flash_model.specs.Bitmap.{allocatedAfterFree}
 
@@ -27,9 +26,6 @@ none-pass p k n e i lo hi = all k n e lo hi ∙ sym (le-ltb i k lo)
         go : (suc k ≤ i → i < suc k + n → p i ≡ false) → Dec (k ≡ i) → p i ≡ false
         go ih (yes d) = subst (λ (j : ℕ). p j ≡ false) d (or-false-left (p k) (anyOf (λ t. t) (map p (numbersFrom (suc k) n))) e)
         go ih (no d) = ih (omega (arith, d)) (omega arith)
-
-any-id : (p : ℕ → Bool) (k n : ℕ) → anyOf (λ t. t) (map p (numbersFrom k n)) ≡ anyOf p (numbersFrom k n)
-any-id p k n = any-map p (λ t. t) (numbersFrom k n)
 
 keep-none : (p : ℕ → Bool) (k n : ℕ) → Below p k n k → length (keep p (numbersFrom k n)) ≡ 0
 keep-none p k n b = all k n (omega arith) b
@@ -108,6 +104,17 @@ keep-length p k (suc n) = go (keep-length p (suc k) n) (p k)
     go ih true = omega arith
     go ih false = omega arith
 
+-- so many are the only ones
+pub up-to-one : (p : ℕ → Bool) (n u v : ℕ) → UpTo p n u → UpTo p n v → u ≤ n → v ≤ n → u ≡ v
+up-to-one p n u v a b h l = omega (arith, at-most u v a b h, at-most v u b a l)
+  where
+    at-most : (u v : ℕ) → UpTo p n u → UpTo p n v → u ≤ n → u ≤ v
+    at-most u v a b h = go (decLe u v)
+      where
+        go : Dec (u ≤ v) → u ≤ v
+        go (yes d) = d
+        go (no d) = leb-true u v (sym (b u (omega (arith, d)) h) ∙ a u (omega (arith, d)) h ∙ le-leb u u (omega arith))
+
 -- in sequence: below one that passes, all pass
 pub passes-below : (p : ℕ → Bool) (n u : ℕ) → UpTo p n u → (j k : ℕ) → 1 ≤ j → j < k → k ≤ n → p k ≡ true → p j ≡ true
 passes-below p n u b j k lo h hi e =
@@ -158,40 +165,3 @@ sequence-gap p a (suc n) e = go (sequence-gap p (suc a) n) (p a) refl e
     go ih false q f =
         let h = some-passes p (suc a) n f in
         (a, h .0, omega arith, omega (arith, h .1), omega (arith, h .2), q, h .3)
-
--- ---- behind the first ones that pass comes one that doesn't, or none
-
--- all before k pass, and k doesn't: what follows decides, and so many pass
-pub first-free : (p : ℕ → Bool) (a n k : ℕ) → a ≤ k → k < a + n → ((j : ℕ) → a ≤ j → j < k → p j ≡ true) → p k ≡ false
-    → (allocatedAfterFree (map p (numbersFrom a n)) ≡ anyOf p (numbersFrom k (a + n - k)))
-    × (anyOf p (numbersFrom k (a + n - k)) ≡ false → length (keep p (numbersFrom a n)) ≡ k - a)
-first-free p a zero k lo hi before here = absurd (omega arith)
-first-free p a (suc n) k lo hi before here = go (first-free p (suc a) n k) (ℕ-discrete a k)
-  where
-    go : (suc a ≤ k → k < suc a + n → ((j : ℕ) → suc a ≤ j → j < k → p j ≡ true) → p k ≡ false
-        → (allocatedAfterFree (map p (numbersFrom (suc a) n)) ≡ anyOf p (numbersFrom k (suc a + n - k)))
-        × (anyOf p (numbersFrom k (suc a + n - k)) ≡ false → length (keep p (numbersFrom (suc a) n)) ≡ k - suc a))
-        → Dec (a ≡ k)
-        → (allocatedAfterFree (map p (numbersFrom a (suc n))) ≡ anyOf p (numbersFrom k (a + suc n - k)))
-        × (anyOf p (numbersFrom k (a + suc n - k)) ≡ false → length (keep p (numbersFrom a (suc n))) ≡ k - a)
-    go ih (yes d) =
-        let q : p a ≡ false = ap p d ∙ here in
-        let z : a + suc n - a ≡ suc n = omega arith in
-        let e : numbersFrom k (a + suc n - k) ≡ a ∷ numbersFrom (suc a) n = ap (λ (i : ℕ). numbersFrom i (a + suc n - i)) (sym d) ∙ ap (numbersFrom a) z in (
-          rw (e, q) (any-id p (suc a) n),
-          λ f. rw q (omega (arith, d, none-length (or-false-right (p a) (anyOf p (numbersFrom (suc a) n)) (sym (ap (anyOf p) e) ∙ f)))),
-        )
-      where
-        none-length : anyOf p (numbersFrom (suc a) n) ≡ false → length (keep p (numbersFrom (suc a) n)) ≡ 0
-        none-length f = keep-none p (suc a) n (none-pass p (suc a) n (any-id p (suc a) n ∙ f))
-    go ih (no d) =
-        let q : p a ≡ true = before a (omega arith) (omega (arith, d)) in
-        let h = ih (omega (arith, d)) (omega arith) (λ j b c. before j (omega arith) c) here in
-        let e : suc a + n - k ≡ a + suc n - k = omega arith in (
-          rw q (h .0 ∙ ap (λ (i : ℕ). anyOf p (numbersFrom k i)) e),
-          λ f. rw q (omega (arith, h .1 (ap (λ (i : ℕ). anyOf p (numbersFrom k i)) e ∙ f), d)),
-        )
-
-pub all-pass : (p : ℕ → Bool) (a n : ℕ) → ((k : ℕ) → a ≤ k → k < a + n → p k ≡ true) → length (keep p (numbersFrom a n)) ≡ n
-all-pass p a zero h = refl
-all-pass p a (suc n) h = rw (h a (omega arith) (omega arith)) (ap suc (all-pass p (suc a) n (λ k b c. h k (omega arith) (omega arith))))

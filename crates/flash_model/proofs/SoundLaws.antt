@@ -87,14 +87,14 @@ module _ (image : List ℕ) where
   unfolding used userBlocks
   used-most = keep-length (allocated image) 1 (capacity (length image))
 
-  tested-used : Tested image → UpTo (allocated image) (capacity (length image)) (used image)
+  pub order-used : outOfSequence (bitmapOf image) (capacity (length image)) ≡ false → UpTo (allocated image) (capacity (length image)) (used image)
   unfolding used userBlocks allocated outOfSequence
-  tested-used t = sequence-up-to (allocatedIn (bitmapOf image)) (capacity (length image)) (t .in-order)
+  order-used e = sequence-up-to (allocatedIn (bitmapOf image)) (capacity (length image)) e
 
   pub allocated-used : Sound image → UpTo (allocated image) (capacity (length image)) (used image)
-  allocated-used s = tested-used (tests-of image s)
+  allocated-used s = order-used (tests-of image s .in-order)
 
-  up-to-order : (u : ℕ) → UpTo (allocated image) (capacity (length image)) u → outOfSequence (bitmapOf image) (capacity (length image)) ≡ false
+  pub up-to-order : (u : ℕ) → UpTo (allocated image) (capacity (length image)) u → outOfSequence (bitmapOf image) (capacity (length image)) ≡ false
   unfolding outOfSequence allocated
   up-to-order u b = up-to-sequence (allocatedIn (bitmapOf image)) (capacity (length image)) u b
 

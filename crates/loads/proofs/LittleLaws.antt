@@ -8,7 +8,7 @@ use native.Mathlib.Omega.{arith}
 use lib.Bits.{bitOr, or-shifted-r}
 use lib.ListN.{getD}
 use lib.Pow.{shl-exact}
-use Rattle.loads.specs.LittleEndian.{LittleMade, Little}
+use Rattle.loads.specs.LittleEndian.{LittleMade, Little, repeated}
 use Rattle.loads.proofs.WordLaws.{pow-next}
 
 -- a word without its first byte
@@ -54,3 +54,27 @@ pub little-join : (w m n : ℕ) {s : List ℕ} {at u v : ℕ} → n * 8 + m * 8 
 little-join w m n {s} {at} {u} {v} fits first second =
     let exact : v * 2 ^ (m * 8) % 2 ^ w ≡ v * 2 ^ (m * 8) = shl-exact (n * 8) (m * 8) w (little-lt n second) fits in
     subst⁻¹ (Little (m + n) s at) (ap (bitOr u) exact ∙ or-shifted-r v (m * 8) u (little-lt m first)) (little-cat m n first second)
+
+-- ---- bytes that are all alike
+
+-- where the word is that of n bytes b, each byte is b
+pub little-repeated : (b n : ℕ) {s : List ℕ} {at w : ℕ} → b < 256 → Little n s at w → w ≡ repeated b n → (k : ℕ) → k < n → getD s (at + k) 0 ≡ b
+little-repeated b zero h known e k lt = absurd (omega arith)
+little-repeated b (suc n) {s} {at} {w} h known e zero lt =
+    let low : w % 256 ≡ b = omega arith in
+    ap (λ (i : ℕ). getD s i 0) (add-zero at) ∙ known .says .0 ∙ low
+little-repeated b (suc n) {s} {at} {w} h known e (suc k) lt =
+    let high : w / 256 ≡ repeated b n = omega arith in
+    let next : at + suc k ≡ at + 1 + k = omega arith in
+    ap (λ (i : ℕ). getD s i 0) next ∙ little-repeated b n h (rest known) high k (omega arith)
+
+-- .. and where each is, the word is that
+pub repeated-little : (b n : ℕ) {s : List ℕ} {at w : ℕ} → Little n s at w → ((k : ℕ) → k < n → getD s (at + k) 0 ≡ b) → w ≡ repeated b n
+repeated-little b zero known alike = known .says
+repeated-little b (suc n) {s} {at} {w} known alike =
+    let low : w % 256 ≡ b = sym (known .says .0) ∙ ap (λ (i : ℕ). getD s i 0) (sym (add-zero at)) ∙ alike 0 (omega arith) in
+    let high : w / 256 ≡ repeated b n = repeated-little b n (rest known) (λ k h. ap (λ (i : ℕ). getD s i 0) (next k) ∙ alike (suc k) (omega arith)) in
+    omega arith
+  where
+    next : (k : ℕ) → at + 1 + k ≡ at + suc k
+    next k = omega arith

@@ -4,12 +4,11 @@ use Prim.Native.Nat.{ℕ, zero, suc, _+_, _*_, _/_, _%_, _^_, _<_, _≤_}
 use mathlib.Core.Path.{_≡_, refl, sym, ap, ap₂, _∙_, subst, subst⁻¹}
 use mathlib.Core.List.{List}
 use native.Mathlib.Nat.{add-assoc, add-zero, zero-add, add-suc, mul-assoc, mod-eq-of-lt}
-use native.Mathlib.Decide.{ℕ-discrete}
 use native.Mathlib.Omega.{arith}
 use lib.Bits.{bitOr, or-shifted, or-block}
 use lib.ListN.{getD}
 use lib.Pow.{pow-add, pow-pos, shl-exact}
-use Rattle.loads.specs.BigEndian.{Made, Word, repeated}
+use Rattle.loads.specs.BigEndian.{Made, Word}
 
 -- one byte more is eight digits more
 pub pow-next : (n : ℕ) → 2 ^ (suc n * 8) ≡ 2 ^ (n * 8) * 256
@@ -55,18 +54,6 @@ word-cat m (suc n) {s} {at} {u} {v} first second =
         ap (λ (i : ℕ). getD s i 0) (sym (add-assoc at m n)) ∙ second .says .1 ∙ sym low,
       );
     }
-
--- where the word is that of n bytes b, each byte is b
-pub word-repeated : (b n : ℕ) {s : List ℕ} {at w : ℕ} → b < 256 → Word n s at w → w ≡ repeated b n → (k : ℕ) → k < n → getD s (at + k) 0 ≡ b
-word-repeated b zero h known e k lt = absurd (omega arith)
-word-repeated b (suc n) {s} {at} {w} h known e k lt =
-    let high : w / 256 ≡ repeated b n = omega arith in
-    let low : w % 256 ≡ b = omega arith in
-    by (word-repeated b n h (front known) high k) low (ℕ-discrete k n)
-  where
-    by : (k < n → getD s (at + k) 0 ≡ b) → w % 256 ≡ b → Dec (k ≡ n) → getD s (at + k) 0 ≡ b
-    by before low (yes last) = ap (λ (i : ℕ). getD s (at + i) 0) last ∙ known .says .1 ∙ low
-    by before low (no other) = before (omega arith)
 
 -- ---- as the code joins them
 

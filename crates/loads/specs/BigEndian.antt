@@ -1,6 +1,6 @@
 -- The number that several bytes of a run make, big endian.
 -- Assumes nothing.
-use Prim.Native.Nat.{ℕ, zero, suc, _+_, _*_, _/_, _%_}
+use Prim.Native.Nat.{ℕ, zero, suc, _+_, _/_, _%_}
 use mathlib.Core.Path.{_≡_}
 use mathlib.Core.List.{List}
 use lib.ListN.{getD}
@@ -13,8 +13,3 @@ Made (suc n) s at w = Made n s at (w / 256) × (getD s (at + n) 0 ≡ w % 256)
 -- the same under a name that tells its arguments
 pub record Word (n : ℕ) (s : List ℕ) (at w : ℕ) : Type 0 where
   pub says : Made n s at w
-
--- the number that n bytes make that are all b
-abbrev pub repeated : ℕ → ℕ → ℕ
-repeated b zero = 0
-repeated b (suc n) = repeated b n * 256 + b

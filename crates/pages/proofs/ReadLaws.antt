@@ -1,6 +1,6 @@
 -- Reading: each way out of the functions is a row of the table. Assumes nothing.
 use Prim.Native.Nat.{ℕ, suc, _+_, _-_, _≤_}
-use mathlib.Core.Path.{_≡_, sym, ap, _∙_}
+use mathlib.Core.Path.{_≡_, refl, sym, ap, _∙_}
 use mathlib.Core.Bool.{Bool, true, false}
 use mathlib.Core.List.{List}
 use mathlib.Core.Option.{Option, none, some, Option·map}
@@ -16,10 +16,18 @@ use Rattle.flash_model.proofs.HolderLaws.{holder-held}
 use Rattle.bitmap.specs.Over.{asFound}
 use Rattle.bitmap.specs.declared.Found.the-variants.{At, Nothing}
 use Rattle.partition.specs.Usable.{Usable}
-use Rattle.partition.proofs.OpenLaws.{found-at, found-nothing}
 use Rattle.pages.specs.Rows.{readRest, readBuffer}
 
 -- ---- a number's contents
+
+-- what a search's answer tells
+found-at : (o : Option ℕ) (k : ℕ) → asFound o ≡ At k → o ≡ some k
+found-at none k e = let z : _≡_ {A = ℕ} 0 1 = cc in absurd (omega arith)
+found-at (some j) k e = let z : j ≡ k = cc in ap (λ (i : ℕ). some i) z
+
+found-nothing : (o : Option ℕ) → asFound o ≡ Nothing → o ≡ none
+found-nothing none e = refl
+found-nothing (some j) e = let z : _≡_ {A = ℕ} 0 1 = cc in absurd (omega arith)
 
 pub contents-at : (image : List ℕ) (n k : ℕ) → asFound (holder image n) ≡ At k → contents image n ≡ some (payload (blockAt image k))
 unfolding contents

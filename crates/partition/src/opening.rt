@@ -1,5 +1,5 @@
 // What every call on a partition begins with: refusals 1 to 5.
-use bitmap::Found;
+use bitmap::Sequence;
 use measures::Measures;
 use words::same;
 ghost use mathlib.Core.Path.{_≡_};
@@ -40,11 +40,8 @@ pub fn open(image: &[u8], partition: u8) -> Opened
         return Opened::Refused(refused);
     }
     let m = Measures::of(image.len());
-    let Found::At(k) = bitmap::lowest_free(image, m) else {
-        return Opened::Open(m, m.capacity());
-    };
-    if bitmap::allocated_from(image, m, k) {
+    let Sequence::Whole(used) = bitmap::sequence_of(image, m) else {
         return Opened::Refused(5);
-    }
-    Opened::Open(m, k - 1)
+    };
+    Opened::Open(m, used)
 }

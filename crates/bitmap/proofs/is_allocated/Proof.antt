@@ -41,8 +41,8 @@ shr-result c = search needs
 returns : tie.Need-returns
 returns c =
     let a = c .before .before .before .before in
-    allocated-is (a .args .image .now) (a .args .m .size) (a .pre .0) (a .args .k) (a .pre .1 .0) (a .pre .1 .1) (c .before .start .result)
-    (c .before .start .ensures ∙ ap (λ (n : ℕ). n * 64) (c .before .before .first-bitmap .ensures))
+    allocated-is (a .args .image .now) (a .args .m .size) (a .pre .0) (c .before .start .result)
+    (c .before .start .ensures ∙ ap (λ (n : ℕ). n * 64) (c .before .before .first-bitmap .ensures)) (a .args .k)
 
 pub is-allocated-spec : {M : Type 1} → statement M
 is-allocated-spec =
