@@ -53,30 +53,6 @@ is-new-requires c κs =
     let a = l .before .before .before .before .before in
     (c .before .part-from .ensures .1, omega (arith, l .loop .inv .1 .same-length, a .pre .1 .0, l .before .capacity .ensures))
 
-cast-kept : tie.Need-cast-kept Inv-loop μ-loop
-cast-kept c =
-    let l = c .before .before .before .before .before in
-    let a = l .before .before .before .before .before in
-    omega (arith, l .loop .inv .0, most a, usable-measured (a .args .image .now) (a .args .m .size) (a .args .used) (a .pre .0) .two-bytes)
-
-sub-kept : tie.Need-sub-kept Inv-loop μ-loop
-sub-kept c =
-    let l = c .before .before .before .before .before in
-    omega (arith, room l, l .loop .inv .2 .same-length)
-
-sub-kept-2 : tie.Need-sub-kept-2 Inv-loop μ-loop
-sub-kept-2 c =
-    let t = c .before .before .before .before in
-    omega (arith, room (t .before), t .before .loop .inv .2 .same-length, t .loop-test .taken)
-
-mul-kept : tie.Need-mul-kept Inv-loop μ-loop
-mul-kept c = search needs
-
-slice-write-kept : tie.Need-slice-write-kept Inv-loop μ-loop
-slice-write-kept c =
-    let t = c .before .before .before .before in
-    omega (arith, room (t .before), t .before .loop .inv .2 .same-length, t .loop-test .taken)
-
 enter-requires : tie.Need-enter-requires Inv-loop μ-loop
 enter-requires c κs =
     let n = c .before .before in
@@ -84,6 +60,30 @@ enter-requires c κs =
     let a = l .before .before .before .before .before in
     let below = new-below _ _ _ (sym (n .is-new .ensures) ∙ c .before .if1 .taken) in
     (n .before .before .part-from .ensures .1, omega (arith, below, l .loop .inv .1 .same-length, a .pre .1 .0, l .before .capacity .ensures))
+
+cast-kept : tie.Need-cast-kept Inv-loop μ-loop
+cast-kept c =
+    let l = c .before .before .before .before .before .before .before .before .before in
+    let a = l .before .before .before .before .before in
+    omega (arith, l .loop .inv .0, most a, usable-measured (a .args .image .now) (a .args .m .size) (a .args .used) (a .pre .0) .two-bytes)
+
+sub-kept : tie.Need-sub-kept Inv-loop μ-loop
+sub-kept c =
+    let l = c .before .before .before .before .before .before .before .before .before in
+    omega (arith, room l, l .loop .inv .2 .same-length)
+
+sub-kept-2 : tie.Need-sub-kept-2 Inv-loop μ-loop
+sub-kept-2 c =
+    let t = c .before .before .before .before .before .before .before .before in
+    omega (arith, room (t .before), t .before .loop .inv .2 .same-length, t .loop-test .taken)
+
+mul-kept : tie.Need-mul-kept Inv-loop μ-loop
+mul-kept c = search needs
+
+slice-write-kept : tie.Need-slice-write-kept Inv-loop μ-loop
+slice-write-kept c =
+    let t = c .before .before .before .before .before .before .before .before in
+    omega (arith, room (t .before), t .before .loop .inv .2 .same-length, t .loop-test .taken)
 
 add-count : tie.Need-add-count Inv-loop μ-loop
 add-count c =
@@ -146,12 +146,12 @@ list-kept-spec =
     loop-holds
     part-from-requires
     is-new-requires
+    enter-requires
     cast-kept
     sub-kept
     sub-kept-2
     mul-kept
     slice-write-kept
-    enter-requires
     add-count
     sub-k
     loop-less
