@@ -37,11 +37,13 @@ fn judge_files(card: &[u8], marks: &mut [u8; 200]) -> Verdict
     ensures { λ r. ⌜ (accepted r ≡ true → Marking (filesBefore (tableOf (now (card .entry))) (directoryOf (now (card .entry))) 208) (now (marks .exit))) ⌝ }
 {
     let mut used = [0u8; 208];
-    let list = list_used(card, &mut used);
+    let mut heads = [0u32; 208];
+    let mut tails = [0u32; 208];
+    let list = list_used(card, &mut used, &mut heads, &mut tails);
     if list.verdict.number != 0 {
         return list.verdict;
     }
-    let chains = walk_files(card, &used, list.count, marks);
+    let chains = walk_files(card, &used, &heads, &tails, list.count, marks);
     if chains.number != 0 {
         return chains;
     }
@@ -49,7 +51,7 @@ fn judge_files(card: &[u8], marks: &mut [u8; 200]) -> Verdict
     if names.number != 0 {
         return names;
     }
-    game_row(card, &used, list.count)
+    game_row(card, &used, &heads, list.count)
 }
 
 // Refusals 20 to 30.

@@ -13,11 +13,12 @@ use Rattle.words.proofs.Bools.{or-false-right}
 use Rattle.card_model.specs.declared.Link.{Link}
 use Rattle.card_model.specs.declared.Link.the-variants.{Free, Damaged, Last, Next, Bad}
 use Rattle.card_model.specs.Table.{linkAt}
-use Rattle.card_model.specs.Entries.{firstBlock, size, isUsed, wrongEntry}
+use Rattle.card_model.specs.Entries.{isUsed, wrongEntry}
 use Rattle.card_model.specs.Files.{chainStep, chain, chainOf}
 use Rattle.card_model.proofs.TableLaws.{next-below}
 use Rattle.card_model.proofs.ChainLaws.{Links, ends, goes, links-same, chain-links, chain-head, chain-distinct}
 use Rattle.card_model.proofs.EntryLaws.{right-entry}
+use Rattle.card_directory.specs.Fields.{Head, Tail, firstIn, sizeIn}
 use Rattle.card_chains.specs.Marks.{isMarked, Lengths, outcome, broken, Walkable, Walked, IsAfter}
 use Rattle.card_chains.proofs.MarkLaws.{marked-set, set-each, any-same}
 
@@ -163,16 +164,16 @@ module _ (table : List ℕ) where
                 swap true false u = refl
                 swap false t u = refl
 
--- ---- the walk along the file of a used entry
+-- ---- the walk along the file of a used entry with these fields
 
-module _ {entry entry′ : List ℕ} (e : entry′ ≡ entry) where
-  pub entry-walkable : (b n : ℕ) → isUsed entry ≡ true → b ≡ firstBlock entry′ → n ≡ size entry′ → wrongEntry entry ≡ false → (b < 200) × (n ≤ 200)
-  entry-walkable b n u p q r = rw (p, q, e) (right-entry entry u r .0, right-entry entry u r .2)
+module _ {entry : List ℕ} {head tail : ℕ} (h : Head entry head) (t : Tail entry tail) where
+  pub fields-walkable : isUsed entry ≡ true → wrongEntry entry ≡ false → (firstIn head < 200) × (sizeIn tail ≤ 200)
+  fields-walkable u r = rw (← h .first-is, ← t .size-is) (right-entry entry u r .0, right-entry entry u r .2)
 
-  pub walk-used : (table marks : List ℕ) {b n : ℕ} {found : ℕ} {marks′ : List ℕ} → b ≡ firstBlock entry′ → n ≡ size entry′
-      → Walked table (chain table n b) marks found marks′ → Walked table (chainOf table entry) marks found marks′
+  pub fields-walked : {table marks : List ℕ} {found : ℕ} {marks′ : List ℕ} → Walked table (chain table (sizeIn tail) (firstIn head)) marks found marks′
+      → Walked table (chainOf table entry) marks found marks′
   unfolding chainOf
-  walk-used table marks p k w = rw (← e, ← p, ← k) w
+  fields-walked w = rw (h .first-is, t .size-is) w
 
 -- ---- the block some steps on
 

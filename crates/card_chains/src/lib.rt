@@ -6,9 +6,9 @@ pub mod walking;
 use crate::walking::BROKEN;
 use crate::walking::SHARED;
 use crate::walking::walk;
-use card_directory::entry::entry_at;
-use card_directory::entry::first_block;
-use card_directory::entry::size;
+use card_directory::fields::first_in;
+use card_directory::fields::size_in;
+use card_directory::listing::fields_at;
 use card_directory::listing::listed_at;
 use card_table::classify;
 use card_table::fat_entry;
@@ -23,24 +23,34 @@ ghost use mathlib.Core.Path.{_≡_};
 ghost use mathlib.Core.Bool.{cond, false, true};
 ghost use Prim.Native.Nat.{ℕ, _≤_, _<_};
 ghost use lib.Dec.{ltb};
-ghost use lib.ListN.{length};
+ghost use lib.ListN.{length, getD};
 ghost use Rattle.verdicts.specs.Rows.{accepted};
 ghost use Rattle.card_model.specs.Layout.{tableOf, directoryOf};
-ghost use Rattle.card_model.specs.Entries.{isUsed, wrongEntry};
-ghost use Rattle.card_model.specs.Files.{chainOf, filesBefore, isOrphan, orphans};
+ghost use Rattle.card_model.specs.Entries.{wrongEntry};
+ghost use Rattle.card_model.specs.Files.{chain, filesBefore, isOrphan, orphans};
 ghost use Rattle.card_model.specs.Sound.{entryOn};
-ghost use Rattle.card_directory.specs.Listed.{Listed};
+ghost use Rattle.card_directory.specs.Fields.{firstIn, sizeIn};
+ghost use Rattle.card_directory.specs.Listed.{Listed, Gathered};
 ghost use Rattle.card_chains.specs.Marks.{noMarks, Lengths, Marking, chainRows, Walked, isShared};
 
-// The walk along the file of entry i, a used one.
-fn walk_file(card: &[u8], table: &[u16; 256], marks: &mut [u8; 200], i: usize) -> u8
-    requires { ⌜ (length (now card) ≡ 131072) × (i < 208) ⌝ }
-    requires { ⌜ (isUsed (entryOn (now card) i) ≡ true) × (wrongEntry (entryOn (now card) i) ≡ false) ⌝ }
+// The walk along the file of number j of the list.
+fn walk_file(
+    table: &[u16; 256],
+    marks: &mut [u8; 200],
+    heads: &[u32; 208],
+    tails: &[u32; 208],
+    j: usize,
+) -> u8
+    requires { ⌜ (j < 208) × (firstIn (getD (now heads) j 0) < 200) × (sizeIn (getD (now tails) j 0) ≤ 200) ⌝ }
     requires { ⌜ Lengths (now table) (now marks) ⌝ }
-    ensures { λ r. ⌜ Walked (now (table .entry)) (chainOf (now (table .entry)) (entryOn (now (card .entry)) i)) (now (marks .entry)) r (now (marks .exit)) ⌝ }
+    ensures { λ r. ⌜ Walked (now (table .entry)) (chain (now (table .entry)) (sizeIn (getD (now (tails .entry)) j 0)) (firstIn (getD (now (heads .entry)) j 0))) (now (marks .entry)) r (now (marks .exit)) ⌝ }
 {
-    let entry = entry_at(card, i);
-    walk(table, marks, first_block(entry), size(entry))
+    walk(
+        table,
+        marks,
+        first_in(fields_at(heads, j)),
+        size_in(fields_at(tails, j)),
+    )
 }
 
 // The first entry that shares a block, 208 for none: the one remembered, or else entry i.
@@ -58,10 +68,18 @@ fn remember(first: usize, found: u8, i: usize) -> usize
 
 // Refusals 27 and 28, over the list of the used entries. A bad chain anywhere comes before a shared block, so the first entry that
 // shares one is remembered and the pass goes on.
-pub fn walk_files(card: &[u8], used: &[u8; 208], count: usize, marks: &mut [u8; 200]) -> Verdict
+pub fn walk_files(
+    card: &[u8],
+    used: &[u8; 208],
+    heads: &[u32; 208],
+    tails: &[u32; 208],
+    count: usize,
+    marks: &mut [u8; 200],
+) -> Verdict
     requires { ⌜ (length (now card) ≡ 131072) × (now marks ≡ noMarks) ⌝ }
     requires { ⌜ Listed (directoryOf (now card)) 208 (now used) count ⌝ }
     requires { ⌜ ((i : ℕ) → i < 208 → wrongEntry (entryOn (now card) i) ≡ false) ⌝ }
+    requires { ⌜ Gathered (directoryOf (now card)) (now used) (now heads) (now tails) count ⌝ }
     ensures { λ r. ⌜ r ≡ chainRows (tableOf (now (card .entry))) (directoryOf (now (card .entry))) ⌝ }
     ensures { λ r. ⌜ (accepted r ≡ true → Marking (filesBefore (tableOf (now (card .entry))) (directoryOf (now (card .entry))) 208) (now (marks .exit))) ⌝ }
 {
@@ -70,7 +88,7 @@ pub fn walk_files(card: &[u8], used: &[u8; 208], count: usize, marks: &mut [u8; 
     let mut j = 0;
     while j < count {
         let i = listed_at(used, j);
-        let found = walk_file(card, &table, marks, i);
+        let found = walk_file(&table, marks, heads, tails, j);
         if found == BROKEN {
             return refused_at(27, Place::Entry(i));
         }

@@ -1,5 +1,5 @@
 -- Parts of a card, what a search answered, and rules 26 and 29 of an entry. Assumes nothing.
-use Prim.Native.Nat.{ℕ, _+_, _-_}
+use Prim.Native.Nat.{ℕ, _+_, _-_, _*_, _/_, _%_, _<_}
 use mathlib.Core.Path.{_≡_, refl, ap, _∙_}
 use mathlib.Core.Bool.{true, false}
 use mathlib.Core.List.{List}
@@ -10,12 +10,21 @@ use lib.ListN.{take, drop}
 use Rattle.words.specs.Lists.{isSome}
 use Rattle.words.specs.Search.{lowest}
 use Rattle.words.proofs.SearchLaws.{any-lowest}
+use Rattle.card_model.specs.Layout.{entryBlock, entryByte, entryPlace}
 use Rattle.card_model.specs.Entries.{nameOf, isUsed, wrongEntry, entryAt, isNamed, nameTaken}
 use Rattle.card_directory.specs.declared.search.FoundEntry.the-variants.{At, Nothing}
 use Rattle.card_directory.specs.Found.{asFound}
 
 pub part-32 : (card : List ℕ) (at : ℕ) → take (at + 32 - at) (drop at card) ≡ take 32 (drop at card)
 part-32 card at = ap (λ (n : ℕ). take n (drop at card)) (add-sub-cancel-left at 32)
+
+-- where entry k of the directory's block n is
+pub place-in : (n k : ℕ) → k < 16 → entryPlace (16 * n + k) ≡ (253 - n) * 512 + 32 * k
+unfolding entryPlace entryBlock entryByte
+place-in n k h =
+    let a : (16 * n + k) / 16 ≡ n = omega arith in
+    let b : (16 * n + k) % 16 ≡ k = omega arith in
+    rw (a, b)
 
 pub unused-right : (directory : List (List ℕ)) (i : ℕ) → isUsed (entryAt directory i) ≡ false → wrongEntry (entryAt directory i) ≡ false
 unfolding wrongEntry

@@ -1,3 +1,4 @@
 pub mod DirectoryLaws
+pub mod FieldLaws
 pub mod ListedLaws
 pub mod RunLaws

@@ -1,21 +1,23 @@
 -- The list of the used entries: how it grows, and what a walk along it finds. Assumes nothing.
 use Prim.Native.Nat.{ℕ, zero, suc, _+_, _-_, _≤_, _<_}
 use mathlib.Core.Path.{_≡_, refl, sym, ap, _∙_}
-use mathlib.Core.Bool.{Bool, true, false}
+use mathlib.Core.Bool.{Bool, true, false, cond}
 use mathlib.Core.List.{List}
 use mathlib.Core.Option.{Option, none, some}
 use native.Mathlib.Omega.{arith}
 use native.Mathlib.Decide.{ℕ-discrete}
 use native.Mathlib.Numerals.{add-one}
-use lib.Dec.{ltb}
+use lib.Dec.{ltb, leb}
 use lib.ListN.{length, getD, set, length-set}
 use lib.Seq.{getD-set-same, getD-set-other}
-use borrow.Author.Tests.{ltb-true, ltb-false}
+use borrow.Author.Tests.{ltb-true, ltb-false, leb-true, leb-false}
 use Rattle.words.specs.Search.{lowest}
 use Rattle.words.proofs.LoopLaws.{lowest-here, lowest-next, lowest-end}
-use Rattle.card_model.specs.Entries.{isUsed, entryAt}
+use Rattle.card_model.specs.Entries.{isUsed, wrongEntry, entryAt}
 use Rattle.card_directory.specs.Runs.{Passed}
-use Rattle.card_directory.specs.Listed.{NextUsed, reached, Listed}
+use Rattle.card_directory.specs.Fields.{Head, Tail, wrongFields}
+use Rattle.card_directory.specs.Listed.{NextUsed, reached, Listed, Holds, Gathered}
+use Rattle.card_directory.proofs.FieldLaws.{fields-wrong}
 
 pub reached-next : (used : List ℕ) (j i : ℕ) → i ≡ getD used j 0 → i + 1 ≡ reached used (j + 1)
 reached-next used j i e = rw (add-one j, add-one i, e)
@@ -32,18 +34,28 @@ module _ (directory : List (List ℕ)) where
   later : {start i end n : ℕ} → i ≤ end → NextUsed directory start i n → NextUsed directory start end n
   later h u = record { from-start = u .from-start; before-end = omega (arith, u .before-end); is-used = u .is-used; skipped = u .skipped }
 
-  -- no entry up to r is used
-  pub listed-on : {i r : ℕ} {used : List ℕ} {count : ℕ} → Listed directory (i + 1) used count → Passed directory i r → Listed directory r used count
-  listed-on {i} {r} {used} {count} l p = record {
+  -- no entry from a to b is used
+  pub listed-over : {a b : ℕ} {used : List ℕ} {count : ℕ} → a ≤ b → Listed directory a used count
+      → ((k : ℕ) → a ≤ k → k < b → isUsed (entryAt directory k) ≡ false) → Listed directory b used count
+  listed-over {a} {b} {used} {count} h l u = record {
     long = l .long;
-    fits = omega (arith, l .fits, p .later);
-    each = λ j h. later (omega (arith, p .later)) (l .each j h);
-    rest = λ k a b. go k a b (ltb i k) refl;
+    fits = omega (arith, l .fits);
+    each = λ j q. later h (l .each j q);
+    rest = λ k q r. go k q r (leb a k) refl;
   }
     where
-      go : (k : ℕ) → reached used count ≤ k → k < r → (t : Bool) → ltb i k ≡ t → isUsed (entryAt directory k) ≡ false
-      go k a b true h = p .unused k (ltb-true i k h) b
-      go k a b false h = l .rest k a (omega (arith, ltb-false i k h))
+      go : (k : ℕ) → reached used count ≤ k → k < b → (t : Bool) → leb a k ≡ t → isUsed (entryAt directory k) ≡ false
+      go k q r true e = u k (leb-true a k e) r
+      go k q r false e = l .rest k q (leb-false a k e)
+
+  -- a number behind the list
+  listed-behind : {end : ℕ} {used : List ℕ} {count : ℕ} (x : ℕ) → Listed directory end used count → Listed directory end (set used count x) count
+  listed-behind {used = used} {count} x l = record {
+    long = length-set used count x ∙ l .long;
+    fits = l .fits;
+    each = λ j h. rw (getD-set-other used count j x 0 (λ e. omega arith), reached-set used count x j (omega arith)) (l .each j h);
+    rest = rw (reached-set used count x count (omega arith)) (l .rest);
+  }
 
   -- ---- one entry more
 
@@ -55,7 +67,7 @@ module _ (directory : List (List ℕ)) where
         go zero e = omega arith
         go (suc j) e = omega (arith, l .each j (omega arith) .before-end)
 
-    pub unused-next : isUsed (entryAt directory i) ≡ false → Listed directory (i + 1) used count
+    unused-next : isUsed (entryAt directory i) ≡ false → Listed directory (i + 1) used count
     unused-next u = record {
       long = l .long;
       fits = omega (arith, l .fits);
@@ -67,7 +79,7 @@ module _ (directory : List (List ℕ)) where
         go k a b (yes d) = ap (λ (n : ℕ). isUsed (entryAt directory n)) d ∙ u
         go k a b (no d) = l .rest k a (omega (arith, d))
 
-    pub used-next : i < 208 → isUsed (entryAt directory i) ≡ true → Listed directory (i + 1) (set used count i) (count + 1)
+    used-next : i < 208 → isUsed (entryAt directory i) ≡ true → Listed directory (i + 1) (set used count i) (count + 1)
     used-next b u = record {
       long = length-set used count i ∙ l .long;
       fits = omega (arith, l .fits);
@@ -85,6 +97,36 @@ module _ (directory : List (List ℕ)) where
         go j h (no d) =
             rw (getD-set-other used count j i 0 d, reached-set used count i j (omega arith)) (later (omega arith) (l .each j (omega (arith, d))))
 
+    pub put-next : i < 208 → (t : Bool) → isUsed (entryAt directory i) ≡ t → Listed directory (i + 1) (set used count i) (count + cond t 1 0)
+    put-next b true u = used-next b u
+    put-next b false u =
+        let e : count + 0 ≡ count = omega arith in
+        rw e (listed-behind i (unused-next u))
+
+  -- ---- the fields
+
+  module _ (Of : List ℕ → ℕ → Type 0) where
+    holds-start : (used : List ℕ) {numbers : List ℕ} → length numbers ≡ 208 → Holds Of directory used numbers 0
+    holds-start used e = record { many = e; at = λ j h. absurd (omega arith) }
+
+    holds-next : (i : ℕ) {used numbers : List ℕ} {count x : ℕ} → length used ≡ 208 → count < 208 → Of (entryAt directory i) x
+        → Holds Of directory used numbers count → (n : ℕ) → n ≤ count + 1 → Holds Of directory (set used count i) (set numbers count x) n
+    holds-next i {used} {numbers} {count} {x} long b f g n m =
+        record { many = length-set numbers count x ∙ g .many; at = λ j c. go j c (ℕ-discrete j count) }
+      where
+        go : (j : ℕ) → j < n → Dec (j ≡ count) → Of (entryAt directory (getD (set used count i) j 0)) (getD (set numbers count x) j 0)
+        go j c (yes d) = rw (d, getD-set-same used count i 0 (omega (arith, long)), getD-set-same numbers count x 0 (omega (arith, g .many))) f
+        go j c (no d) = rw (getD-set-other used count j i 0 d, getD-set-other numbers count j x 0 d) (g .at j (omega (arith, d)))
+
+  pub gathered-start : (used : List ℕ) {heads tails : List ℕ} → length heads ≡ 208 → length tails ≡ 208 → Gathered directory used heads tails 0
+  gathered-start used p q = record { in-heads = holds-start Head used p; in-tails = holds-start Tail used q }
+
+  pub gathered-next : (i : ℕ) {used heads tails : List ℕ} {count head tail : ℕ} → length used ≡ 208 → count < 208 → Head (entryAt directory i) head
+      → Tail (entryAt directory i) tail → Gathered directory used heads tails count → (n : ℕ) → n ≤ count + 1
+      → Gathered directory (set used count i) (set heads count head) (set tails count tail) n
+  gathered-next i long b h t g n m =
+      record { in-heads = holds-next Head i long b h (g .in-heads) n m; in-tails = holds-next Tail i long b t (g .in-tails) n m }
+
 -- a number of the list
 pub listed-below : {directory : List (List ℕ)} {used : List ℕ} {count : ℕ} → Listed directory 208 used count → (j i : ℕ) → i ≡ getD used j 0 → j < count → i < 208
 listed-below l j i e h = rw e (l .each j h .before-end)
@@ -92,6 +134,15 @@ listed-below l j i e h = rw e (l .each j h .before-end)
 pub listed-used : {directory : List (List ℕ)} {used : List ℕ} {count : ℕ} → Listed directory 208 used count → (j i : ℕ) → i ≡ getD used j 0 → j < count
     → isUsed (entryAt directory i) ≡ true
 listed-used l j i e h = rw e (l .each j h .is-used)
+
+pub holds-at : {Of : List ℕ → ℕ → Type 0} {directory : List (List ℕ)} {used numbers : List ℕ} {count : ℕ} → Holds Of directory used numbers count
+    → (j i : ℕ) → i ≡ getD used j 0 → j < count → Of (entryAt directory i) (getD numbers j 0)
+holds-at g j i e h = rw e (g .at j h)
+
+-- rule 26 of a listed entry, by its fields
+pub listed-wrong : {directory : List (List ℕ)} {used heads tails : List ℕ} {count : ℕ} → Listed directory 208 used count → Gathered directory used heads tails count
+    → (j : ℕ) → j < count → wrongEntry (entryAt directory (getD used j 0)) ≡ wrongFields (getD heads j 0) (getD tails j 0)
+listed-wrong l g j h = fields-wrong (g .in-heads .at j h) (g .in-tails .at j h) (l .each j h .is-used)
 
 -- ---- what no unused entry changes is the same where a walk has come to and at the next entry of the list, or at the end
 
@@ -156,3 +207,12 @@ module _ (directory : List (List ℕ)) (p : ℕ → Bool) (unused : (i : ℕ) �
   pub found-none : (j : ℕ) → j ≡ count → firstFrom p (reached used j) ≡ none
   unfolding firstFrom
   found-none j z = stays-to-end directory (firstFrom p) (λ k u. first-same p k (unused k u)) l j z
+
+  pub found-nowhere : ((j : ℕ) → j < count → p (getD used j 0) ≡ false) → firstFrom p 0 ≡ none
+  found-nowhere q = go count (omega arith) ∙ found-none count refl
+    where
+      go : (j : ℕ) → j ≤ count → firstFrom p 0 ≡ firstFrom p (reached used j)
+      go zero h = refl
+      go (suc j) h =
+          go j (omega arith) ∙ found-later j (getD used j 0) refl (omega arith) (q j (omega arith))
+          ∙ ap (λ (k : ℕ). firstFrom p (reached used k)) (add-one j)

@@ -13,16 +13,23 @@ use Rattle.card_directory.specs.Runs.{usedFrom, Passed}
 module _ (directory : List (List ℕ)) where
   -- one entry of the run more, `used` telling of those before it
   module _ (n k : ℕ) (used : Bool) where
-    pub run-next : (s : List ℕ) → k < 8 → s ≡ entryAt directory (8 * n + k)
+    pub run-next : (s : List ℕ) → k < 16 → s ≡ entryAt directory (16 * n + k)
         → (used || usedFrom directory n k) ≡ ((used || isUsed s) || usedFrom directory n (k + 1))
     unfolding usedFrom
     run-next s h e =
-        let p : ℕ → Bool = λ j. isUsed (entryAt directory (8 * n + j)) in
-        ap (λ (t : Bool). used || t) (ap (anyOf p) (numbers-next p k 8 h) ∙ rw e) ∙ sym (or-assoc used (isUsed s) (usedFrom directory n (k + 1)))
+        let p : ℕ → Bool = λ j. isUsed (entryAt directory (16 * n + j)) in
+        ap (λ (t : Bool). used || t) (ap (anyOf p) (numbers-next p k 16 h) ∙ rw e) ∙ sym (or-assoc used (isUsed s) (usedFrom directory n (k + 1)))
 
-    pub run-end : 8 ≤ k → (used || usedFrom directory n k) ≡ used
+    pub run-end : 16 ≤ k → (used || usedFrom directory n k) ≡ used
     unfolding usedFrom
-    run-end h = ap (λ (t : Bool). used || t) (any-end (λ j. isUsed (entryAt directory (8 * n + j))) k 8 h) ∙ or-false used
+    run-end h = ap (λ (t : Bool). used || t) (any-end (λ j. isUsed (entryAt directory (16 * n + j))) k 16 h) ∙ or-false used
+
+  pub run-unused : (n : ℕ) → usedFrom directory n 0 ≡ false → (k : ℕ) → 16 * n ≤ k → k < 16 * n + 16 → isUsed (entryAt directory k) ≡ false
+  unfolding usedFrom
+  run-unused n u k a b =
+      let e : 16 * n + (k - 16 * n) ≡ k = omega arith in
+      ap (λ (j : ℕ). isUsed (entryAt directory j)) (sym e)
+      ∙ none-range (λ j. isUsed (entryAt directory (16 * n + j))) 0 16 u (k - 16 * n) (omega arith) (omega arith)
 
   -- ---- where a pass goes on
 
@@ -30,12 +37,5 @@ module _ (directory : List (List ℕ)) where
     pub passed-one : Passed directory i (i + 1)
     passed-one = record { later = omega arith; within = omega arith; unused = λ k a b. absurd (omega arith) }
 
-    pub passed-run : i % 8 ≡ 0 → usedFrom directory (i / 8) 0 ≡ false → Passed directory i (i + 8)
-    unfolding usedFrom
-    passed-run z u = record { later = omega arith; within = omega arith; unused = go }
-      where
-        go : (k : ℕ) → i < k → k < i + 8 → isUsed (entryAt directory k) ≡ false
-        go k a b =
-            let e : 8 * (i / 8) + (k - i) ≡ k = omega arith in
-            ap (λ (j : ℕ). isUsed (entryAt directory j)) (sym e)
-            ∙ none-range (λ j. isUsed (entryAt directory (8 * (i / 8) + j))) 0 8 u (k - i) (omega arith) (omega arith)
+    pub passed-run : i % 16 ≡ 0 → usedFrom directory (i / 16) 0 ≡ false → Passed directory i (i + 16)
+    passed-run z u = record { later = omega arith; within = omega arith; unused = λ k a b. run-unused (i / 16) u k (omega arith) (omega arith) }

@@ -1,3 +1,4 @@
+pub mod Fields
 pub mod Found
 pub mod Listed
 pub mod Runs

@@ -1,4 +1,4 @@
--- Runs of eight entries of the directory.
+-- Runs of 16 entries of the directory.
 -- Assumes nothing.
 use Prim.Native.Nat.{ℕ, _+_, _-_, _*_, _≤_, _<_}
 use mathlib.Core.Path.{_≡_}
@@ -9,7 +9,7 @@ use Rattle.card_model.specs.Entries.{isUsed, entryAt}
 
 -- One of a run's entries from k on is used, where n runs come before it.
 unfoldable pub usedFrom : List (List ℕ) → ℕ → ℕ → Bool
-usedFrom directory n k = anyOf (λ j. isUsed (entryAt directory (8 * n + j))) (numbersFrom k (8 - k))
+usedFrom directory n k = anyOf (λ j. isUsed (entryAt directory (16 * n + j))) (numbersFrom k (16 - k))
 
 -- A pass may go on from entry i to r: no entry between them is used.
 pub record Passed (directory : List (List ℕ)) (i r : ℕ) : Type 0 where

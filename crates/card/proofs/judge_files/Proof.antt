@@ -13,69 +13,69 @@ returns : tie.Need-returns
 returns c =
     let g = c .before in
     let f = g .before .before .list-used in
-    let a = g .before .before .before .before .before in
+    let a = g .before .before .before .before .before .before .before in
     let table = tableOf (a .args .card .now) in
     let directory = directoryOf (a .args .card .now) in
     (fields-refused table directory (f .result .verdict) (f .ensures .0) (g .if1 .taken), λ z. absurd (g .if1 .taken (eqb-true _ _ z)))
 
 walk-files-requires : tie.Need-walk-files-requires
 walk-files-requires c κs =
-    let g = c .before .before in
+    let g = c .before .before .before .before in
     let f = g .before .before .list-used in
-    let a = g .before .before .before .before .before in
+    let a = g .before .before .before .before .before .before .before in
     let table = tableOf (a .args .card .now) in
     let directory = directoryOf (a .args .card .now) in
-    (a .pre, (f .ensures .1 (eq-eqb _ 0 (g .if1 .left)), fields-right table directory (f .result .verdict) (f .ensures .0) (g .if1 .left)))
+    (a .pre, (f .ensures .1 .0, (fields-right table directory (f .result .verdict) (f .ensures .0) (g .if1 .left), f .ensures .1 .1)))
 
 returns-2 : tie.Need-returns-2
 returns-2 c =
     let h = c in
     let w = h .before .before .walk-files in
-    let g = h .before .before .before .before .before in
+    let g = h .before .before .before .before .before .before .before in
     let f = g .before .before .list-used in
-    let a = g .before .before .before .before .before in
+    let a = g .before .before .before .before .before .before .before in
     let table = tableOf (a .args .card .now) in
     let directory = directoryOf (a .args .card .now) in
     (chains-refused table directory (f .result .verdict) (f .ensures .0) (g .if1 .left) (w .result) (w .ensures .0) (c .if2 .taken), λ z. absurd (c .if2 .taken (eqb-true _ _ z)))
 
 name-row-requires : tie.Need-name-row-requires
 name-row-requires c κs =
-    let g = c .before .before .before .before .before .before in
+    let g = c .before .before .before .before .before .before .before .before in
     let f = g .before .before .list-used in
-    (g .before .before .before .before .before .pre .0, f .ensures .1 (eq-eqb _ 0 (g .if1 .left)))
+    (g .before .before .before .before .before .before .before .pre .0, f .ensures .1 .0)
 
 returns-3 : tie.Need-returns-3
 returns-3 c =
     let m = c .before .before .name-row in
     let h = c .before .before .before .before in
     let w = h .before .before .walk-files in
-    let g = h .before .before .before .before .before in
+    let g = h .before .before .before .before .before .before .before in
     let f = g .before .before .list-used in
-    let a = g .before .before .before .before .before in
+    let a = g .before .before .before .before .before .before .before in
     let table = tableOf (a .args .card .now) in
     let directory = directoryOf (a .args .card .now) in
     (names-refused table directory (f .result .verdict) (f .ensures .0) (g .if1 .left) (w .result) (w .ensures .0) (h .if2 .left) (m .result) (m .ensures) (c .if3 .taken), λ z. absurd (c .if3 .taken (eqb-true _ _ z)))
 
 game-row-requires : tie.Need-game-row-requires
 game-row-requires c κs =
-    let h = c .before .before .before .before .before in
+    let h = c .before .before .before .before .before .before in
     let w = h .before .before .walk-files in
-    let g = h .before .before .before .before .before in
+    let g = h .before .before .before .before .before .before .before in
     let f = g .before .before .list-used in
-    let a = g .before .before .before .before .before in
+    let a = g .before .before .before .before .before .before .before in
     let table = tableOf (a .args .card .now) in
     let directory = directoryOf (a .args .card .now) in
-    (a .pre .0, (good-chains table directory (f .result .verdict) (f .ensures .0) (g .if1 .left) (w .result) (w .ensures .0) (h .if2 .left), f .ensures .1 (eq-eqb _ 0 (g .if1 .left))))
+    (a .pre .0, (good-chains table directory (f .result .verdict) (f .ensures .0) (g .if1 .left) (w .result) (w .ensures .0) (h .if2 .left), (f .ensures .1 .0, f .ensures .1 .1 .in-heads)))
 
 returns-4 : tie.Need-returns-4
 returns-4 c =
-    let k = c .before .before in
+    let k = c .before .before .before in
     let m = k .before .before .name-row in
     let h = k .before .before .before .before in
     let w = h .before .before .walk-files in
-    let g = h .before .before .before .before .before in
+    let g = h .before .before .before .before .before .before .before in
     let f = g .before .before .list-used in
-    let a = g .before .before .before .before .before in
+    let a = g .before .before .before .before .before .before .before in
     let table = tableOf (a .args .card .now) in
     let directory = directoryOf (a .args .card .now) in
     (names-passed table directory (f .result .verdict) (f .ensures .0) (g .if1 .left) (w .result) (w .ensures .0) (h .if2 .left) (m .result) (m .ensures) (k .if3 .left) (c .game-row .result) (c .game-row .ensures), λ z. w .ensures .1 (eq-eqb _ 0 (h .if2 .left)))

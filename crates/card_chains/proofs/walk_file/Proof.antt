@@ -1,31 +1,46 @@
 -- `walk_file` meets its contract. Assumes nothing.
-use Rattle.card_chains.proofs.WalkLaws.{entry-walkable, walkable, walk-used}
+use mathlib.Core.Path.{ap, _∙_}
+use Rattle.card_directory.specs.Fields.{firstIn, sizeIn}
+use Rattle.card_chains.proofs.WalkLaws.{walkable}
 use borrow.Author.Needs.{needs}
 use Rattle.card_chains.proofs.walk_file.Statement.{statement}
 use Rattle.card_chains.proofs.walk_file.Tie as tie
 
-entry-at-requires : tie.Need-entry-at-requires
-entry-at-requires c κs = search needs
+fields-at-requires : tie.Need-fields-at-requires
+fields-at-requires c κs = search needs
 
-first-block-requires : tie.Need-first-block-requires
-first-block-requires c κs = search needs
+first-in-requires : tie.Need-first-in-requires
+first-in-requires c κs = search needs
 
-size-requires : tie.Need-size-requires
-size-requires c κs = search needs
+fields-at-requires-2 : tie.Need-fields-at-requires-2
+fields-at-requires-2 c κs = search needs
+
+size-in-requires : tie.Need-size-in-requires
+size-in-requires c κs = search needs
 
 walk-requires : tie.Need-walk-requires
 walk-requires c κs =
-    let f = c .before in
-    let n = f .before .before in
-    let a = n .before .before in
-    let u = a .pre .1 .0 in
-    (entry-walkable (n .entry-at .ensures .0) _ _ (u .0) (f .first-block .ensures) (c .size .ensures) (u .1), walkable _ _ _ _ (a .pre .1 .1))
+    let f = c .before .before in
+    let a = f .before .before .before in
+    let b = f .first-in .ensures ∙ ap firstIn (f .before .fields-at .ensures) in
+    let n = c .size-in .ensures ∙ ap sizeIn (c .before .fields-at2 .ensures) in
+    ((rw b (a .pre .0 .1), rw n (a .pre .0 .2)), walkable _ _ _ _ (a .pre .1))
 
 returns : tie.Need-returns
 returns c =
-    let f = c .before .before in
-    walk-used (f .before .before .entry-at .ensures .0) _ _ (f .first-block .ensures) (c .before .size .ensures) (c .walk .ensures)
+    let z = c .before in
+    let f = z .before .before in
+    let b = f .first-in .ensures ∙ ap firstIn (f .before .fields-at .ensures) in
+    let n = z .size-in .ensures ∙ ap sizeIn (z .before .fields-at2 .ensures) in
+    rw (b, n) at (c .walk .ensures)
 
 pub walk-file-spec : {M : Type 1} → statement M
 walk-file-spec =
-    tie.close (tie.spec entry-at-requires first-block-requires size-requires walk-requires returns)
+    tie.close
+    (tie.spec
+    fields-at-requires
+    first-in-requires
+    fields-at-requires-2
+    size-in-requires
+    walk-requires
+    returns)

@@ -13,10 +13,11 @@ use Rattle.card_model.specs.Layout.{tableOf, directoryOf}
 use Rattle.card_model.specs.Entries.{entryAt}
 use Rattle.card_model.specs.Files.{badChain, chainRow, filesBefore, sharesBlock, sharingRow}
 use Rattle.card_directory.specs.Listed.{reached}
-use Rattle.card_directory.proofs.ListedLaws.{reached-next, listed-below, listed-used, stays, stays-to-end, firstFrom, found-here, found-later, found-none}
+use Rattle.card_directory.proofs.ListedLaws.{reached-next, listed-below, listed-used, holds-at, stays, stays-to-end, firstFrom, found-here, found-later, found-none}
 use Rattle.card_chains.specs.Marks.{Lengths, Marking, chainRows}
 use Rattle.card_chains.proofs.MarkLaws.{lengths-start, marking-start, files-stay, unused-bad, unused-shares, walk-broken, walk-lengths, walk-shares, walk-marking}
 use Rattle.card_chains.proofs.FirstLaws.{orEnd, firstBefore, before-same, first-next, still-none, first-some, first-none}
+use Rattle.card_chains.proofs.WalkLaws.{fields-walkable, fields-walked}
 use borrow.Author.Needs.{needs}
 use borrow.Author.Tests.{eq-eqb, ne-eqb}
 use Rattle.card_chains.proofs.walk_files.Statement.{statement}
@@ -32,12 +33,12 @@ abbrev files : List ℕ → ℕ → List ℕ
 files card = filesBefore (tableOf card) (directoryOf card)
 
 abbrev Inv-loop : tie.InvT-loop
-Inv-loop card used count marks₀ table first₀ j₀ marks first j =
+Inv-loop card used heads tails count marks₀ table first₀ j₀ marks first j =
     (j ≤ count) × Lengths (tableOf card) marks × (firstFrom (bad card) 0 ≡ firstFrom (bad card) (reached used j))
     × (first ≡ orEnd 208 (firstBefore (shares card) (reached used j))) × (208 ≤ first → Marking (files card (reached used j)) marks)
 
 abbrev μ-loop : tie.MeasureT-loop
-μ-loop card used count marks₀ table first₀ j₀ marks first j = count - j
+μ-loop card used heads tails count marks₀ table first₀ j₀ marks first j = count - j
 
 start : (card : List ℕ) → 208 ≡ orEnd 208 (firstBefore (shares card) 0)
 unfolding firstBefore
@@ -82,8 +83,12 @@ walk-file-requires c κs =
     let a = l .before .before .before in
     let list = a .pre .1 .0 in
     let e = n .listed-at .ensures in
-    let b = listed-below list (l .loop .j) _ e (omega arith) in
-    ((a .pre .0 .0, b), ((listed-used list (l .loop .j) _ e (omega arith), a .pre .1 .1 _ b), rw (l .before .read-table .ensures) (l .loop .inv .1)))
+    let j = l .loop .j in
+    let h : j < a .args .count = omega arith in
+    let fields = a .pre .1 .1 .1 in
+    let right = a .pre .1 .1 .0 _ (listed-below list j _ e h) in
+    let w = fields-walkable (holds-at (fields .in-heads) j _ e h) (holds-at (fields .in-tails) j _ e h) (listed-used list j _ e h) right in
+    ((omega (arith, list .fits), w .0, w .1), rw (l .before .read-table .ensures) (l .loop .inv .1))
 
 refused-at-requires : tie.Need-refused-at-requires Inv-loop μ-loop
 refused-at-requires c κs = search needs
@@ -102,7 +107,8 @@ returns c =
     let j = l .loop .j in
     let e = n .listed-at .ensures in
     let h : j < a .args .count = omega arith in
-    let walked = rw (r .read-table .ensures) at (w .walk-file .ensures) in
+    let fields = a .pre .1 .1 .1 in
+    let walked = fields-walked (holds-at (fields .in-heads) j _ e h) (holds-at (fields .in-tails) j _ e h) (rw (r .read-table .ensures) at (w .walk-file .ensures)) in
     let b = sym (walk-broken _ _ _ (listed-used list j _ e h) walked) ∙ eq-eqb _ _ (d .if1 .taken) in
     (v ∙ chain-refused card _ (l .loop .inv .2 ∙ found-here _ (bad card) (unused-bad _ _) list j _ e h b), λ e. absurd (false≢true (sym (ap accepted v) ∙ e)))
 
@@ -130,7 +136,8 @@ loop-again c =
     let below : j + 1 ≤ a .args .count = omega arith in
     let b = listed-below list j _ e h in
     let u = listed-used list j _ e h in
-    let walked = rw (r .read-table .ensures) at (w .walk-file .ensures) in
+    let fields = a .pre .1 .1 .1 in
+    let walked = fields-walked (holds-at (fields .in-heads) j _ e h) (holds-at (fields .in-tails) j _ e h) (rw (r .read-table .ensures) at (w .walk-file .ensures)) in
     let same = stays _ (files card) (files-stay _ _) list j _ e h in
     let m = rw same at (l .loop .inv .4) in
     let sound = ne-eqb _ _ (c .before .if1 .left) in

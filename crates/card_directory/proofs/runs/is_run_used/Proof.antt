@@ -12,22 +12,16 @@ use Rattle.card_directory.proofs.runs.is_run_used.Statement.{statement}
 use Rattle.card_directory.proofs.runs.is_run_used.Tie as tie
 
 abbrev Inv-loop : tie.InvT-loop
-Inv-loop card n used₀ k₀ used k = (k ≤ 8) × (usedFrom (directoryOf card) n 0 ≡ (used || usedFrom (directoryOf card) n k))
+Inv-loop card n used₀ k₀ used k = (k ≤ 16) × (usedFrom (directoryOf card) n 0 ≡ (used || usedFrom (directoryOf card) n k))
 
 abbrev μ-loop : tie.MeasureT-loop
-μ-loop card n used₀ k₀ used k = 8 - k
+μ-loop card n used₀ k₀ used k = 16 - k
 
 loop-holds : tie.Need-loop-holds Inv-loop μ-loop
 loop-holds c = (omega arith, refl)
 
-mul-entry-at : tie.Need-mul-entry-at Inv-loop μ-loop
-mul-entry-at c = search needs
-
-add-entry-at : tie.Need-add-entry-at Inv-loop μ-loop
-add-entry-at c = search needs
-
-entry-at-requires : tie.Need-entry-at-requires Inv-loop μ-loop
-entry-at-requires c κs = search needs
+entry-in-requires : tie.Need-entry-in-requires Inv-loop μ-loop
+entry-in-requires c κs = search needs
 
 is-used-requires : tie.Need-is-used-requires Inv-loop μ-loop
 is-used-requires c κs = search needs
@@ -41,7 +35,7 @@ loop-less c = search needs
 loop-again : tie.Need-loop-again Inv-loop μ-loop
 loop-again c =
     let l = c .before .before .before in
-    (omega arith, l .loop .inv .1 ∙ run-next _ _ (l .loop .k) (l .loop .used) _ (omega arith) (c .before .entry-at .ensures .0) ∙ rw (c .is-used .ensures))
+    (omega arith, l .loop .inv .1 ∙ run-next _ _ (l .loop .k) (l .loop .used) _ (omega arith) (c .before .entry-in .ensures .0) ∙ rw (c .is-used .ensures))
 
 returns : tie.Need-returns Inv-loop μ-loop
 returns c =
@@ -55,9 +49,7 @@ is-run-used-spec =
     Inv-loop
     μ-loop
     loop-holds
-    mul-entry-at
-    add-entry-at
-    entry-at-requires
+    entry-in-requires
     is-used-requires
     add-k
     loop-less
