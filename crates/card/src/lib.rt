@@ -6,13 +6,14 @@ use card_chains::count_orphans;
 use card_chains::walk_files;
 use card_chains::walking::block_after;
 use card_directory::entry;
+use card_directory::listing::UsedEntries;
 use card_directory::listing::list_used;
 use card_directory::search::FoundEntry;
-use card_directory::search::find_named;
 use card_directory::search::first_used;
 use card_games::game_row;
 use card_model::Checked;
 use card_model::Listing;
+use card_names::find_named;
 use card_names::name_row;
 use card_table::table_verdict;
 use verdicts::Place;
@@ -29,41 +30,71 @@ ghost use Rattle.card_model.specs.Calls.{directoryRows, verdictOf, checkOf, not
 ghost use Rattle.card_model.specs.Files.{filesBefore};
 ghost use Rattle.card_model.specs.Sound.{NoRowRefuses};
 ghost use Rattle.card_chains.specs.Marks.{noMarks, Marking};
+ghost use Rattle.card_names.specs.Slots.{AllNames};
+ghost use Rattle.card.specs.Lists.{Unfilled, Filled};
 
-// Refusals 26 to 30; the blocks of all files are marked where none applies.
-fn judge_files(card: &[u8], marks: &mut [u8; 200]) -> Verdict
+// Refusals 26 to 30, and how many entries are used. These are listed; where no row refuses, the blocks of their files are marked, and
+// their names are in the table.
+fn judge_files(
+    card: &[u8],
+    marks: &mut [u8; 200],
+    used: &mut [u8; 208],
+    slots: &mut [u8; 2048],
+    next: &mut [u8; 208],
+) -> UsedEntries
     requires { ⌜ (length (now card) ≡ 131072) × (now marks ≡ noMarks) ⌝ }
-    ensures { λ r. ⌜ r ≡ directoryRows (tableOf (now (card .entry))) (directoryOf (now (card .entry))) ⌝ }
-    ensures { λ r. ⌜ (accepted r ≡ true → Marking (filesBefore (tableOf (now (card .entry))) (directoryOf (now (card .entry))) 208) (now (marks .exit))) ⌝ }
+    requires { ⌜ Unfilled (now used) (now slots) (now next) ⌝ }
+    ensures { λ r. ⌜ r .verdict ≡ directoryRows (tableOf (now (card .entry))) (directoryOf (now (card .entry))) ⌝ }
+    ensures { λ r. ⌜ (accepted (r .verdict) ≡ true → Marking (filesBefore (tableOf (now (card .entry))) (directoryOf (now (card .entry))) 208) (now (marks .exit))) ⌝ }
+    ensures { λ r. ⌜ (accepted (r .verdict) ≡ true → Filled (now (card .entry)) (now (used .exit)) (now (slots .exit)) (now (next .exit)) (r .count)) ⌝ }
 {
-    let mut used = [0u8; 208];
     let mut heads = [0u32; 208];
     let mut tails = [0u32; 208];
-    let list = list_used(card, &mut used, &mut heads, &mut tails);
+    let list = list_used(card, used, &mut heads, &mut tails);
+    let count = list.count;
     if list.verdict.number != 0 {
-        return list.verdict;
+        return list;
     }
-    let chains = walk_files(card, &used, &heads, &tails, list.count, marks);
+    let chains = walk_files(card, used, &heads, &tails, count, marks);
     if chains.number != 0 {
-        return chains;
+        return UsedEntries {
+            verdict: chains,
+            count,
+        };
     }
-    let names = name_row(card, &used, list.count);
+    let names = name_row(card, used, count, slots, next);
     if names.number != 0 {
-        return names;
+        return UsedEntries {
+            verdict: names,
+            count,
+        };
     }
-    game_row(card, &used, &heads, list.count)
+    UsedEntries {
+        verdict: game_row(card, used, &heads, count),
+        count,
+    }
 }
 
 // Refusals 20 to 30.
-fn judge(card: &[u8]) -> Verdict
-    ensures { λ r. ⌜ r ≡ verdictOf (now (card .entry)) ⌝ }
+fn judge(
+    card: &[u8],
+    used: &mut [u8; 208],
+    slots: &mut [u8; 2048],
+    next: &mut [u8; 208],
+) -> UsedEntries
+    requires { ⌜ Unfilled (now used) (now slots) (now next) ⌝ }
+    ensures { λ r. ⌜ r .verdict ≡ verdictOf (now (card .entry)) ⌝ }
+    ensures { λ r. ⌜ (accepted (r .verdict) ≡ true → Filled (now (card .entry)) (now (used .exit)) (now (slots .exit)) (now (next .exit)) (r .count)) ⌝ }
 {
     let table = table_verdict(card);
     if table.number != 0 {
-        return table;
+        return UsedEntries {
+            verdict: table,
+            count: 0,
+        };
     }
     let mut marks = [0u8; 200];
-    judge_files(card, &mut marks)
+    judge_files(card, &mut marks, used, slots, next)
 }
 
 fn not_checked(verdict: Verdict) -> Checked
@@ -84,7 +115,11 @@ pub fn check(card: &[u8]) -> Checked
         return not_checked(table);
     }
     let mut marks = [0u8; 200];
-    let verdict = judge_files(card, &mut marks);
+    let mut used = [0u8; 208];
+    let mut slots = [0u8; 2048];
+    let mut next = [0u8; 208];
+    let judged = judge_files(card, &mut marks, &mut used, &mut slots, &mut next);
+    let verdict = judged.verdict;
     if verdict.number != 0 {
         return not_checked(verdict);
     }
@@ -136,19 +171,31 @@ fn listed(i: usize, found: &[u8]) -> Listing
 pub fn list(card: &[u8], from: usize) -> Listing
     ensures { λ r. ⌜ r ≡ listOf (now (card .entry)) from ⌝ }
 {
-    let verdict = judge(card);
-    if verdict.number != 0 {
-        return not_listed(verdict);
+    let mut used = [0u8; 208];
+    let mut slots = [0u8; 2048];
+    let mut next = [0u8; 208];
+    let judged = judge(card, &mut used, &mut slots, &mut next);
+    if judged.verdict.number != 0 {
+        return not_listed(judged.verdict);
     }
-    let FoundEntry::At(i) = first_used(card, from) else {
+    let FoundEntry::At(i) = first_used(card, &used, judged.count, from) else {
         return not_listed(refused_at(31, Place::Whole));
     };
     listed(i, entry::entry_at(card, i))
 }
 
 // Refusals 33, 31 and 32 of a read from a sound card, or the block.
-fn read_file(card: &[u8], name: &[u8], index: usize, block: &mut [u8]) -> Verdict
+fn read_file(
+    card: &[u8],
+    used: &[u8; 208],
+    slots: &[u8; 2048],
+    next: &[u8; 208],
+    name: &[u8],
+    index: usize,
+    block: &mut [u8],
+) -> Verdict
     requires { ⌜ NoRowRefuses (now card) ⌝ }
+    requires { ⌜ AllNames (directoryOf (now card)) (now used) (now slots) (now next) ⌝ }
     ensures { λ r. ⌜ r ≡ readRows (directoryOf (now (card .entry))) (now (name .entry)) index (now (block .entry)) ⌝ }
     ensures { λ r. ⌜ now (block .exit) ≡ leftBy r (now (card .entry)) index (entryNamed (directoryOf (now (card .entry))) (now (name .entry))) (now (block .entry)) ⌝ }
 {
@@ -158,7 +205,7 @@ fn read_file(card: &[u8], name: &[u8], index: usize, block: &mut [u8]) -> Verdic
     if block.len() != 512 {
         return refused_at(33, Place::Whole);
     }
-    let FoundEntry::At(i) = find_named(card, name, 208) else {
+    let FoundEntry::At(i) = find_named(card, used, slots, next, name) else {
         return refused_at(31, Place::Whole);
     };
     let found = entry::entry_at(card, i);
@@ -176,9 +223,12 @@ pub fn read(card: &[u8], name: &[u8], index: usize, block: &mut [u8]) -> Verdict
     ensures { λ r. ⌜ r ≡ readVerdict (now (card .entry)) (now (name .entry)) index (now (block .entry)) ⌝ }
     ensures { λ _. ⌜ now (block .exit) ≡ readBuffer (now (card .entry)) (now (name .entry)) index (now (block .entry)) ⌝ }
 {
-    let verdict = judge(card);
-    if verdict.number != 0 {
-        return verdict;
+    let mut used = [0u8; 208];
+    let mut slots = [0u8; 2048];
+    let mut next = [0u8; 208];
+    let judged = judge(card, &mut used, &mut slots, &mut next);
+    if judged.verdict.number != 0 {
+        return judged.verdict;
     }
-    read_file(card, name, index, block)
+    read_file(card, &used, &slots, &next, name, index, block)
 }

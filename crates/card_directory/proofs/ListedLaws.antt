@@ -1,7 +1,7 @@
 -- The list of the used entries: how it grows, and what a walk along it finds. Assumes nothing.
 use Prim.Native.Nat.{ℕ, zero, suc, _+_, _-_, _≤_, _<_}
 use mathlib.Core.Path.{_≡_, refl, sym, ap, _∙_}
-use mathlib.Core.Bool.{Bool, true, false, cond}
+use mathlib.Core.Bool.{Bool, true, false, cond, true≢false}
 use mathlib.Core.List.{List}
 use mathlib.Core.Option.{Option, none, some}
 use native.Mathlib.Omega.{arith}
@@ -12,6 +12,7 @@ use lib.ListN.{length, getD, set, length-set}
 use lib.Seq.{getD-set-same, getD-set-other}
 use borrow.Author.Tests.{ltb-true, ltb-false, leb-true, leb-false}
 use Rattle.words.specs.Search.{lowest}
+use Rattle.words.proofs.SearchLaws.{lowest-nothing}
 use Rattle.words.proofs.LoopLaws.{lowest-here, lowest-next, lowest-end}
 use Rattle.card_model.specs.Entries.{isUsed, wrongEntry, entryAt}
 use Rattle.card_directory.specs.Runs.{Passed}
@@ -134,6 +135,45 @@ listed-below l j i e h = rw e (l .each j h .before-end)
 pub listed-used : {directory : List (List ℕ)} {used : List ℕ} {count : ℕ} → Listed directory 208 used count → (j i : ℕ) → i ≡ getD used j 0 → j < count
     → isUsed (entryAt directory i) ≡ true
 listed-used l j i e h = rw e (l .each j h .is-used)
+
+-- where an entry is in the first n numbers of the list
+pub record Indexed (used : List ℕ) (n i : ℕ) : Type 0 where
+  pub index : ℕ
+  pub low : index < n
+  pub is : i ≡ getD used index 0
+
+module _ {directory : List (List ℕ)} {used : List ℕ} {count : ℕ} (l : Listed directory 208 used count) where
+  pub listed-index : (n : ℕ) → n ≤ count → (i : ℕ) → i < reached used n → isUsed (entryAt directory i) ≡ true → Indexed used n i
+  listed-index zero h i b u = absurd (omega arith)
+  listed-index (suc n) h i b u = go (λ q. listed-index n (omega arith) i q u) (ℕ-discrete i (getD used n 0)) (ltb i (reached used n)) refl
+    where
+      go : (i < reached used n → Indexed used n i) → Dec (i ≡ getD used n 0) → (t : Bool) → ltb i (reached used n) ≡ t → Indexed used (suc n) i
+      go before (yes d) t q = record { index = n; low = omega arith; is = d }
+      go before (no d) true q =
+          let x = before (ltb-true _ _ q) in
+          record { index = x .index; low = omega (arith, x .low); is = x .is }
+      go before (no d) false q = absurd (true≢false (sym u ∙ l .each n (omega arith) .skipped i (ltb-false _ _ q) (omega (arith, d))))
+
+  pub listed-rises : (n : ℕ) → n ≤ count → (k : ℕ) → k < n → getD used k 0 < reached used n
+  listed-rises zero h k b = absurd (omega arith)
+  listed-rises (suc n) h k b = go (λ q. listed-rises n (omega arith) k q) (ℕ-discrete k n)
+    where
+      go : (k < n → getD used k 0 < reached used n) → Dec (k ≡ n) → getD used k 0 < suc (getD used n 0)
+      go before (yes d) = rw d (omega arith)
+      go before (no d) =
+          let x = before (omega (arith, d)) in
+          omega (arith, x, l .each n (omega arith) .from-start)
+
+  pub listed-before : (i : ℕ) → i < 208 → isUsed (entryAt directory i) ≡ true → i < reached used count
+  listed-before i b u = go (ltb i (reached used count)) refl
+    where
+      go : (t : Bool) → ltb i (reached used count) ≡ t → i < reached used count
+      go true q = ltb-true _ _ q
+      go false q = absurd (true≢false (sym u ∙ l .rest i (ltb-false _ _ q) b))
+
+  -- no used entry is behind the list
+  pub none-left : (start : ℕ) → reached used count ≤ start → lowest (λ i. isUsed (entryAt directory i)) start (208 - start) ≡ none
+  none-left start h = lowest-nothing (λ i. isUsed (entryAt directory i)) start (208 - start) (λ k a b. l .rest k (omega arith) (omega arith))
 
 pub holds-at : {Of : List ℕ → ℕ → Type 0} {directory : List (List ℕ)} {used numbers : List ℕ} {count : ℕ} → Holds Of directory used numbers count
     → (j i : ℕ) → i ≡ getD used j 0 → j < count → Of (entryAt directory i) (getD numbers j 0)

@@ -1,4 +1,4 @@
-// The directory of a card: its entries one by one, searches by use and by name, refusal 26 and the list of the used entries.
+// The directory of a card: its entries one by one, the search by use, refusal 26 and the list of the used entries.
 pub mod entry;
 pub mod fields;
 pub mod listing;

@@ -1,1 +1,1 @@
-pub mod PrintLaws
+pub mod NameLaws

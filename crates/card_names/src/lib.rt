@@ -1,104 +1,137 @@
-// Refusal 29. Each name has a fingerprint, one number, and each fingerprint a mark, one byte of a field of marks: fingerprints are
-// compared only where the mark is set, and names only where an earlier fingerprint is the same.
+// Refusal 29 and the search for a name, by a hash table: each slot leads to the last listed entry whose name falls into it, and each
+// entry to the one before it in its slot. Numbers in the table are one more than those of the list, and 0 is none.
 use card_directory::entry::entry_at;
 use card_directory::listing::listed_at;
 use card_directory::search::FoundEntry;
-use card_directory::search::find_named;
 use verdicts::Place;
 use verdicts::Verdict;
 use verdicts::done;
 use verdicts::refused_at;
+use words::same;
+use words::wide;
 use words::word;
 ghost use mathlib.Core.Path.{_≡_};
-ghost use Prim.Native.Nat.{_+_, _≤_, _<_};
-ghost use lib.Dec.{eqb};
-ghost use lib.ListN.{length, getD};
-ghost use Rattle.words.specs.Lists.{anyOf, numbersFrom};
+ghost use mathlib.Core.Bool.{true, false};
+ghost use Prim.Native.Nat.{ℕ, suc, _+_, _≤_, _<_};
+ghost use lib.ListN.{length, getD, replicate};
+ghost use Rattle.words.specs.Words.{sameBytes};
+ghost use Rattle.verdicts.specs.Rows.{accepted};
 ghost use Rattle.card_model.specs.Layout.{directoryOf};
-ghost use Rattle.card_model.specs.Entries.{nameTaken, nameRow};
+ghost use Rattle.card_model.specs.Entries.{nameOf, entryAt, nameTaken, nameRow};
+ghost use Rattle.card_model.specs.Calls.{entryNamed};
+ghost use Rattle.card_directory.specs.Found.{asFound};
 ghost use Rattle.card_directory.specs.Listed.{Listed};
-ghost use Rattle.card_names.specs.Prints as shortcut;
+ghost use Rattle.card_names.specs.Slots as table;
 
 // Four bytes as a number.
 fn quad(name: &[u8], i: usize) -> usize
     requires { ⌜ i + 3 < length (now name) ⌝ }
-    ensures { λ r. ⌜ (r ≡ shortcut.quad (now (name .entry)) i) × (r < 4294967296) ⌝ }
+    ensures { λ r. ⌜ (r ≡ table.quad (now (name .entry)) i) × (r < 4294967296) ⌝ }
 {
     word(name, i) + 65536 * word(name, i + 2)
 }
 
-// The fingerprint of an entry's name. Any function of the name would do. The factors are below 2^30, so that the sum fits, and the
-// middle of the sum depends on every byte, so that similar names seldom have the same fingerprint or the same mark.
-fn print_of(entry: &[u8]) -> u32
-    requires { ⌜ length (now entry) ≡ 32 ⌝ }
-    ensures { λ r. ⌜ r ≡ shortcut.printOf (now (entry .entry)) ⌝ }
+// The slot of a name. The factors are below 2^30, so that the sum fits, and the middle of the sum depends on every byte, so that
+// similar names seldom have the same slot.
+fn slot_of(name: &[u8]) -> usize
+    requires { ⌜ length (now name) ≡ 12 ⌝ }
+    ensures { λ r. ⌜ (r ≡ table.slotOf (now (name .entry))) × (r < 2048) ⌝ }
 {
-    let name = &entry[4..16];
     let sum = 747796405 * quad(name, 0) + 843314857 * quad(name, 4) + 668265263 * quad(name, 8);
-    (sum / 16777216 % 4294967296) as u32
+    sum / 16777216 % 2048
 }
 
-// The place of a fingerprint's mark.
-fn slot(print: u32) -> usize
-    ensures { λ r. ⌜ (r ≡ shortcut.slot print) × (r < 2048) ⌝ }
+// The slot of an entry's name.
+fn entry_slot(entry: &[u8]) -> usize
+    requires { ⌜ length (now entry) ≡ 32 ⌝ }
+    ensures { λ r. ⌜ (r ≡ table.slotOf (nameOf (now (entry .entry)))) × (r < 2048) ⌝ }
 {
-    (print % 2048) as usize
+    slot_of(&entry[4..16])
 }
 
-// Whether one of the first numbers is this one. The loop has no way out, so that it is compiled to steps of several numbers.
-fn is_seen(prints: &[u32; 208], end: usize, print: u32) -> bool
-    requires { ⌜ end ≤ 208 ⌝ }
-    ensures { λ r. ⌜ r ≡ anyOf (λ j. eqb (getD (now (prints .entry)) j 0) print) (numbersFrom 0 end) ⌝ }
+fn has_name(entry: &[u8], name: &[u8]) -> bool
+    requires { ⌜ length (now entry) ≡ 32 ⌝ }
+    ensures { λ r. ⌜ r ≡ sameBytes (nameOf (now (entry .entry))) (now (name .entry)) ⌝ }
 {
-    let mut seen = false;
-    let mut j = 0;
-    while j < end {
-        seen = seen | (prints[j] == print);
-        j += 1;
+    same(&entry[4..16], name)
+}
+
+// The last of the first listed entries that has this name, where the last of them may have its slot.
+fn find_back(card: &[u8], used: &[u8; 208], next: &[u8; 208], start: usize, name: &[u8]) -> usize
+    requires { ⌜ (length (now card) ≡ 131072) × (start ≤ 208) ⌝ }
+    requires { ⌜ table.Chained (directoryOf (now card)) (now used) (now next) start ⌝ }
+    requires { ⌜ ((j : ℕ) → suc j ≡ start → table.slotAt (directoryOf (now card)) (now used) j ≡ table.slotOf (now name)) ⌝ }
+    ensures { λ r. ⌜ table.LastOf (table.nameAt (directoryOf (now (card .entry))) (now (used .entry))) (now (name .entry)) start r ⌝ }
+{
+    let mut k = start;
+    while k != 0 {
+        if has_name(entry_at(card, listed_at(used, k - 1)), name) {
+            return k;
+        }
+        k = wide(next[k - 1]);
     }
-    seen
+    0
 }
 
-// Refusal 29's test of a used entry with this fingerprint. Names that differ may share a mark, and even a fingerprint.
-fn name_taken(card: &[u8], prints: &[u32; 208], marks: &[u8; 2048], i: usize, print: u32) -> bool
-    requires { ⌜ (length (now card) ≡ 131072) × (i < 208) ⌝ }
-    requires { ⌜ shortcut.Met (directoryOf (now card)) (now prints) (now marks) i print ⌝ }
-    ensures { λ r. ⌜ r ≡ nameTaken (directoryOf (now (card .entry))) i ⌝ }
+// The same for the name of entry i. The test comes first, so that nothing else is done for most names.
+fn find_same(card: &[u8], used: &[u8; 208], next: &[u8; 208], start: usize, i: usize) -> usize
+    requires { ⌜ (length (now card) ≡ 131072) × (start ≤ 208) × (i < 208) ⌝ }
+    requires { ⌜ table.Chained (directoryOf (now card)) (now used) (now next) start ⌝ }
+    requires { ⌜ ((j : ℕ) → suc j ≡ start → table.slotAt (directoryOf (now card)) (now used) j ≡ table.slotOf (nameOf (entryAt (directoryOf (now card)) i))) ⌝ }
+    ensures { λ r. ⌜ table.LastOf (table.nameAt (directoryOf (now (card .entry))) (now (used .entry))) (nameOf (entryAt (directoryOf (now (card .entry))) i)) start r ⌝ }
 {
-    if marks[slot(print)] == 0 {
-        return false;
-    }
-    if !is_seen(prints, i, print) {
-        return false;
+    if start == 0 {
+        return 0;
     }
     let entry = entry_at(card, i);
-    match find_named(card, &entry[4..16], i) {
-        FoundEntry::At(_) => true,
-        FoundEntry::Nothing => false,
-    }
+    find_back(card, used, next, start, &entry[4..16])
 }
 
-// The refusal at the first entry whose name is taken, from the list of the used entries.
-pub fn name_row(card: &[u8], used: &[u8; 208], count: usize) -> Verdict
-    requires { ⌜ length (now card) ≡ 131072 ⌝ }
+// The refusal at the first entry whose name is taken, from the list of the used entries; where there is none, all names are in the
+// table.
+pub fn name_row(
+    card: &[u8],
+    used: &[u8; 208],
+    count: usize,
+    slots: &mut [u8; 2048],
+    next: &mut [u8; 208],
+) -> Verdict
+    requires { ⌜ (length (now card) ≡ 131072) × (now slots ≡ replicate 2048 0) × (length (now next) ≡ 208) ⌝ }
     requires { ⌜ Listed (directoryOf (now card)) 208 (now used) count ⌝ }
     ensures { λ r. ⌜ r ≡ nameRow (directoryOf (now (card .entry))) ⌝ }
+    ensures { λ r. ⌜ (accepted r ≡ true → table.AllNames (directoryOf (now (card .entry))) (now (used .entry)) (now (slots .exit)) (now (next .exit))) ⌝ }
 {
-    if count == 0 {
-        return done();
-    }
-    let mut prints = [0u32; 208];
-    let mut marks = [0u8; 2048];
     let mut j = 0;
     while j < count {
         let i = listed_at(used, j);
-        let print = print_of(entry_at(card, i));
-        if name_taken(card, &prints, &marks, i, print) {
+        let slot = entry_slot(entry_at(card, i));
+        let last = slots[slot];
+        if find_same(card, used, next, wide(last), i) != 0 {
             return refused_at(29, Place::Entry(i));
         }
-        prints[i] = print;
-        marks[slot(print)] = 1;
+        next[j] = last;
+        slots[slot] = (j + 1) as u8;
         j += 1;
     }
     done()
+}
+
+// The entry of this name, where no two have the same.
+pub fn find_named(
+    card: &[u8],
+    used: &[u8; 208],
+    slots: &[u8; 2048],
+    next: &[u8; 208],
+    name: &[u8],
+) -> FoundEntry
+    requires { ⌜ (length (now card) ≡ 131072) × (length (now name) ≡ 12) ⌝ }
+    requires { ⌜ table.AllNames (directoryOf (now card)) (now used) (now slots) (now next) ⌝ }
+    requires { ⌜ ((i : ℕ) → i < 208 → nameTaken (directoryOf (now card)) i ≡ false) ⌝ }
+    ensures { λ r. ⌜ r ≡ asFound (entryNamed (directoryOf (now (card .entry))) (now (name .entry))) ⌝ }
+{
+    let found = find_back(card, used, next, wide(slots[slot_of(name)]), name);
+    if found == 0 {
+        return FoundEntry::Nothing;
+    }
+    FoundEntry::At(listed_at(used, found - 1))
 }

@@ -18,7 +18,7 @@ returns : tie.Need-returns
 returns c =
     let a = c .before .before .before .before .before in
     let card = a .args .card .now in
-    let r = wrong-name card (a .pre) (a .args .name .now) (a .args .index) (a .args .block .now) (c .refused-at .result) (c .refused-at .ensures) (c .before .if1 .taken) in
+    let r = wrong-name card (a .pre .0) (a .args .name .now) (a .args .index) (a .args .block .now) (c .refused-at .result) (c .refused-at .ensures) (c .before .if1 .taken) in
     (r .verdict-is, r .buffer-is)
 
 refused-at-requires-2 : tie.Need-refused-at-requires-2
@@ -28,7 +28,7 @@ returns-2 : tie.Need-returns-2
 returns-2 c =
     let a = c .before .before .before .before .before .before in
     let card = a .args .card .now in
-    let r = wrong-block card (a .pre) (a .args .name .now) (a .args .index) (a .args .block .now) (c .refused-at2 .result) (c .refused-at2 .ensures) (c .before .if2 .taken) in
+    let r = wrong-block card (a .pre .0) (a .args .name .now) (a .args .index) (a .args .block .now) (c .refused-at2 .result) (c .refused-at2 .ensures) (c .before .if2 .taken) in
     (r .verdict-is, r .buffer-is)
 
 find-named-requires : tie.Need-find-named-requires
@@ -37,7 +37,7 @@ find-named-requires c κs =
     let d = c in
     let a = d .before .before .before .before .before in
     let card = a .args .card .now in
-    (a .pre .long, omega arith)
+    ((a .pre .0 .long, d .before .if1 .left), (a .pre .1, a .pre .0 .names))
 
 enum-known-i : tie.Need-enum-known-i
 enum-known-i c = search needs
@@ -55,7 +55,7 @@ returns-3 c =
     let a = d .before .before .before .before .before in
     let card = a .args .card .now in
     let q = found-none _ (sym (c .before .before .before .find-named .ensures) ∙ c .before .enum-told .given .1) in
-    let r = no-file card (a .pre) (a .args .name .now) (a .args .index) (a .args .block .now) (d .before .if1 .left) (d .if2 .left) (c .refused-at3 .result) (c .refused-at3 .ensures) q in
+    let r = no-file card (a .pre .0) (a .args .name .now) (a .args .index) (a .args .block .now) (d .before .if1 .left) (d .if2 .left) (c .refused-at3 .result) (c .refused-at3 .ensures) q in
     (r .verdict-is, r .buffer-is)
 
 entry-at-requires : tie.Need-entry-at-requires
@@ -66,7 +66,7 @@ entry-at-requires c κs =
     let a = d .before .before .before .before .before in
     let card = a .args .card .now in
     let q = found-some _ _ (sym (v .before .before .before .find-named .ensures) ∙ v .before .i .given .1) in
-    (a .pre .long, named-below (directoryOf card) (a .args .name .now) _ q)
+    (a .pre .0 .long, named-below (directoryOf card) (a .args .name .now) _ q)
 
 size-requires : tie.Need-size-requires
 size-requires c κs = search needs
@@ -85,7 +85,7 @@ returns-4 c =
     let card = a .args .card .now in
     let q = found-some _ _ (sym (v .before .before .before .find-named .ensures) ∙ v .before .i .given .1) in
     let h = subst (λ (k : ℕ). k ≤ a .args .index) (z .ensures) (c .before .if3 .taken) in
-    let r = past-end card (a .pre) (a .args .name .now) (a .args .index) (a .args .block .now) (d .before .if1 .left) (d .if2 .left) _ q (n .result .now) (n .ensures .0) (c .refused-at4 .result) (c .refused-at4 .ensures) h in
+    let r = past-end card (a .pre .0) (a .args .name .now) (a .args .index) (a .args .block .now) (d .before .if1 .left) (d .if2 .left) _ q (n .result .now) (n .ensures .0) (c .refused-at4 .result) (c .refused-at4 .ensures) h in
     (r .verdict-is, r .buffer-is)
 
 first-block-requires : tie.Need-first-block-requires
@@ -100,8 +100,8 @@ block-after-requires c κs =
     let a = d .before .before .before .before .before in
     let card = a .args .card .now in
     let q = found-some _ _ (sym (v .before .before .before .find-named .ensures) ∙ v .before .i .given .1) in
-    let h = first-below card (a .pre) (a .args .name .now) (a .args .index) (a .args .block .now) (d .before .if1 .left) (d .if2 .left) _ q (n .result .now) (n .ensures .0) in
-    (a .pre .long, subst (λ (k : ℕ). k < 200) (sym (c .first-block .ensures)) h)
+    let h = first-below card (a .pre .0) (a .args .name .now) (a .args .index) (a .args .block .now) (d .before .if1 .left) (d .if2 .left) _ q (n .result .now) (n .ensures .0) in
+    (a .pre .0 .long, subst (λ (k : ℕ). k < 200) (sym (c .first-block .ensures)) h)
 
 mul-at : tie.Need-mul-at
 mul-at c = search needs
@@ -117,7 +117,7 @@ part-copy-start c = search needs
 
 part-copy-end : tie.Need-part-copy-end
 unfolding cardLength
-part-copy-end c = omega (arith, c .before .before .before .before .before .before .before .before .before .before .before .before .before .before .pre .long, c .block-after .ensures .1)
+part-copy-end c = omega (arith, c .before .before .before .before .before .before .before .before .before .before .before .before .before .before .pre .0 .long, c .block-after .ensures .1)
 
 copy-requires : tie.Need-copy-requires
 copy-requires c κs = search needs
@@ -141,7 +141,7 @@ returns-5 c =
     let q = found-some _ _ (sym (v .before .before .before .find-named .ensures) ∙ v .before .i .given .1) in
     let h = subst (λ (k : ℕ). a .args .index < k) (z .ensures) (p .before .before .if3 .left) in
     let t = subst (λ (k : ℕ). IsAfter (tableOf card) k (a .args .index) (p .block-after .result)) (p .before .first-block .ensures) (p .block-after .ensures .0) in
-    let r = in-file card (a .pre) (a .args .name .now) (a .args .index) (a .args .block .now) (d .before .if1 .left) (d .if2 .left) _ q (n .result .now) (n .ensures .0) (c .done .result) (c .done .ensures) h _ t (p .block-after .ensures .1) _ (c .before .before .before .copy .ensures .1) in
+    let r = in-file card (a .pre .0) (a .args .name .now) (a .args .index) (a .args .block .now) (d .before .if1 .left) (d .if2 .left) _ q (n .result .now) (n .ensures .0) (c .done .result) (c .done .ensures) h _ t (p .block-after .ensures .1) _ (c .before .before .before .copy .ensures .1) in
     (r .verdict-is, r .buffer-is)
 
 pub read-file-spec : {M : Type 1} → statement M

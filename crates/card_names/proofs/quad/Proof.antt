@@ -1,6 +1,6 @@
 -- `quad` meets its contract. Assumes nothing.
 use native.Mathlib.Omega.{arith}
-use Rattle.card_names.specs.Prints.{quad}
+use Rattle.card_names.specs.Slots.{quad}
 use borrow.Author.Needs.{needs}
 use Rattle.card_names.proofs.quad.Statement.{statement}
 use Rattle.card_names.proofs.quad.Tie as tie

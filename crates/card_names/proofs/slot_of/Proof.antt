@@ -1,18 +1,9 @@
--- `print_of` meets its contract. Assumes nothing.
-use Rattle.card_model.specs.Entries.{nameOf}
-use Rattle.card_names.specs.Prints.{fingerprint, printOf}
+-- `slot_of` meets its contract. Assumes nothing.
+use native.Mathlib.Omega.{arith}
+use Rattle.card_names.specs.Slots.{slotOf}
 use borrow.Author.Needs.{needs}
-use Rattle.card_names.proofs.print_of.Statement.{statement}
-use Rattle.card_names.proofs.print_of.Tie as tie
-
-sub-name : tie.Need-sub-name
-sub-name c = search needs
-
-part-name-start : tie.Need-part-name-start
-part-name-start c = search needs
-
-part-name-end : tie.Need-part-name-end
-part-name-end c = search needs
+use Rattle.card_names.proofs.slot_of.Statement.{statement}
+use Rattle.card_names.proofs.slot_of.Tie as tie
 
 quad-requires : tie.Need-quad-requires
 quad-requires c κs = search needs
@@ -38,20 +29,14 @@ mul-sum-3 c = search needs
 add-sum-2 : tie.Need-add-sum-2
 add-sum-2 c = search needs
 
-cast-result : tie.Need-cast-result
-cast-result c = search needs
-
 returns : tie.Need-returns
-unfolding printOf fingerprint nameOf
-returns c = cc
+unfolding slotOf
+returns c = (cc, omega arith)
 
-pub print-of-spec : {M : Type 1} → statement M
-print-of-spec =
+pub slot-of-spec : {M : Type 1} → statement M
+slot-of-spec =
     tie.close
     (tie.spec
-    sub-name
-    part-name-start
-    part-name-end
     quad-requires
     mul-sum
     quad-requires-2
@@ -60,5 +45,4 @@ print-of-spec =
     quad-requires-3
     mul-sum-3
     add-sum-2
-    cast-result
     returns)
