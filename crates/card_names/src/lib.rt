@@ -73,16 +73,13 @@ fn find_back(card: &[u8], used: &[u8; 208], next: &[u8; 208], start: usize, name
     0
 }
 
-// The same for the name of entry i. The test comes first, so that nothing else is done for most names.
+// The same for the name of entry i.
 fn find_same(card: &[u8], used: &[u8; 208], next: &[u8; 208], start: usize, i: usize) -> usize
     requires { ⌜ (length (now card) ≡ 131072) × (start ≤ 208) × (i < 208) ⌝ }
     requires { ⌜ table.Chained (directoryOf (now card)) (now used) (now next) start ⌝ }
     requires { ⌜ ((j : ℕ) → suc j ≡ start → table.slotAt (directoryOf (now card)) (now used) j ≡ table.slotOf (nameOf (entryAt (directoryOf (now card)) i))) ⌝ }
     ensures { λ r. ⌜ table.LastOf (table.nameAt (directoryOf (now (card .entry))) (now (used .entry))) (nameOf (entryAt (directoryOf (now (card .entry))) i)) start r ⌝ }
 {
-    if start == 0 {
-        return 0;
-    }
     let entry = entry_at(card, i);
     find_back(card, used, next, start, &entry[4..16])
 }
@@ -106,8 +103,10 @@ pub fn name_row(
         let i = listed_at(used, j);
         let slot = entry_slot(entry_at(card, i));
         let last = slots[slot];
-        if find_same(card, used, next, wide(last), i) != 0 {
-            return refused_at(29, Place::Entry(i));
+        if last != 0 {
+            if find_same(card, used, next, wide(last), i) != 0 {
+                return refused_at(29, Place::Entry(i));
+            }
         }
         next[j] = last;
         slots[slot] = (j + 1) as u8;

@@ -4,13 +4,9 @@ use mathlib.Core.List.{List}
 use Prim.Native.Nat.{ℕ}
 use Rattle.card_model.specs.Entries.{nameOf}
 use Rattle.card_names.specs.Slots.{slotOf}
-use Rattle.card_names.proofs.NameLaws.{last-of-none}
 use borrow.Author.Needs.{needs}
 use Rattle.card_names.proofs.find_same.Statement.{statement}
 use Rattle.card_names.proofs.find_same.Tie as tie
-
-returns : tie.Need-returns
-returns c = last-of-none (c .if1 .taken)
 
 entry-at-requires : tie.Need-entry-at-requires
 entry-at-requires c κs = search needs
@@ -28,22 +24,21 @@ find-back-requires : tie.Need-find-back-requires
 unfolding nameOf
 find-back-requires c κs =
     let n = c .before in
-    let a = n .before .before .before in
+    let a = n .before .before in
     let e = ap (λ (s : List ℕ). slotOf (nameOf s)) (sym (n .entry-at .ensures .0)) in
     ((a .pre .0 .0, a .pre .0 .1), (a .pre .1 .0, λ j q. a .pre .1 .1 j q ∙ e))
 
-returns-2 : tie.Need-returns-2
+returns : tie.Need-returns
 unfolding nameOf
-returns-2 c = rw (c .before .before .entry-at .ensures .0) at (c .find-back .ensures)
+returns c = rw (c .before .before .entry-at .ensures .0) at (c .find-back .ensures)
 
 pub find-same-spec : {M : Type 1} → statement M
 find-same-spec =
     tie.close
     (tie.spec
-    returns
     entry-at-requires
     sub-find-back
     part-find-back-start
     part-find-back-end
     find-back-requires
-    returns-2)
+    returns)

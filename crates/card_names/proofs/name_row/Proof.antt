@@ -1,8 +1,9 @@
 -- `name_row` meets its contract: the names that were passed are in the table, and what is found from here on is what is found from
 -- the start. Assumes nothing.
 use Prim.Native.Nat.{ℕ, _-_, _≤_, _<_}
-use mathlib.Core.Path.{_≡_, refl, sym, ap, _∙_}
-use mathlib.Core.Bool.{false≢true}
+use mathlib.Core.Path.{_≡_, refl, sym, ap, subst, _∙_}
+use mathlib.Core.Logic.{⊎-elim}
+use mathlib.Core.Bool.{false, false≢true}
 use mathlib.Core.List.{List}
 use native.Mathlib.Omega.{arith}
 use lib.ListN.{getD}
@@ -12,8 +13,8 @@ use Rattle.card_model.specs.Layout.{directoryOf}
 use Rattle.card_model.specs.Entries.{nameOf, entryAt, nameTaken, nameRow}
 use Rattle.card_directory.specs.Listed.{reached}
 use Rattle.card_directory.proofs.ListedLaws.{firstFrom, found-here, found-later, found-none, listed-below}
-use Rattle.card_names.specs.Slots.{slotOf, slotAt, LastOf, Slots}
-use Rattle.card_names.proofs.NameLaws.{unused-free, slots-start, chained-to, slots-next, last-named, name-free, name-taken}
+use Rattle.card_names.specs.Slots.{slotOf, nameAt, slotAt, LastOf, Slots}
+use Rattle.card_names.proofs.NameLaws.{unused-free, last-of-none, slots-start, chained-to, slots-next, last-named, name-free, name-taken}
 use borrow.Author.Needs.{needs}
 use Rattle.card_names.proofs.name_row.Statement.{statement}
 use Rattle.card_names.proofs.name_row.Tie as tie
@@ -52,7 +53,7 @@ wide-requires c κs = search needs
 find-same-requires : tie.Need-find-same-requires Inv-loop μ-loop
 find-same-requires c κs =
     let w = c in
-    let s = w .before .before .before in
+    let s = w .before .before .before .before in
     let n = s .before in
     let t = n .before in
     let l = t .before .before in
@@ -77,7 +78,7 @@ unfolding nameRow firstFrom
 returns c =
     let f = c .before .before in
     let w = f .before in
-    let s = w .before .before .before in
+    let s = w .before .before .before .before in
     let n = s .before in
     let t = n .before in
     let l = t .before .before in
@@ -91,7 +92,7 @@ returns c =
     let o : LastOf (slotAt directory used) (s .entry-slot .result) j (w .wide .result) = rw (w .wide .ensures .0) (table .last _ (s .entry-slot .ensures .1)) in
     let own = s .entry-slot .ensures .0 ∙ ap (λ (x : List ℕ). slotOf (nameOf x)) (n .entry-at .ensures .0) in
     let named = last-named directory used o own (f .find-same .ensures) in
-    let q = name-taken _ _ (a .pre .1) j _ e h named (c .before .if1 .taken) in
+    let q = name-taken _ _ (a .pre .1) j _ e h named (c .before .if2 .taken) in
     let v = c .refused-at .ensures in (
       v ∙ ap (rowOver _ Entry) (sym (l .loop .inv .2 ∙ found-here _ (nameTaken directory) (unused-free _) (a .pre .1) j _ e h q)),
       λ z. absurd (false≢true (sym (ap accepted v) ∙ z)),
@@ -117,9 +118,7 @@ loop-less c = search needs
 
 loop-again : tie.Need-loop-again Inv-loop μ-loop
 loop-again c =
-    let f = c .before in
-    let w = f .before in
-    let s = w .before .before .before in
+    let s = c .before .before in
     let n = s .before in
     let t = n .before in
     let l = t .before .before in
@@ -130,10 +129,14 @@ loop-again c =
     let h : j < a .args .count = omega arith in
     let table = l .loop .inv .1 in
     let e = t .listed-at .ensures in
-    let o : LastOf (slotAt directory used) (s .entry-slot .result) j (w .wide .result) = rw (w .wide .ensures .0) (table .last _ (s .entry-slot .ensures .1)) in
+    let o = table .last _ (s .entry-slot .ensures .1) in
     let own = s .entry-slot .ensures .0 ∙ ap (λ (x : List ℕ). slotOf (nameOf x)) (n .entry-at .ensures .0) in
-    let named = last-named directory used o own (f .find-same .ensures) in
-    let q = name-free _ _ (a .pre .1) j _ e h named (c .if1 .left) in
+    let free : (start r : ℕ) → LastOf (slotAt directory used) (s .entry-slot .result) j start
+    → LastOf (nameAt directory used) (nameOf (entryAt directory (t .listed-at .result))) start r → r ≡ 0 → nameTaken directory (t .listed-at .result) ≡ false =
+    λ start r x y. name-free _ _ (a .pre .1) j _ e h (last-named directory used x own y) in
+    let q = ⊎-elim (λ w. free _ _ (subst (LastOf (slotAt directory used) _ j) (sym (w .2 .ensures .0)) o) (w .3 .ensures) (w .4 .left))
+    (λ w. free _ _ (subst (LastOf (slotAt directory used) _ j) (w .left) o) (last-of-none refl) refl)
+    (c .if1 .came) in
     let below : getD used j 0 < 208 = listed-below (a .pre .1) j _ refl h in
     let slot = own ∙ ap (λ (i : ℕ). slotOf (nameOf (entryAt directory i))) e in (
       omega arith,
