@@ -22,9 +22,9 @@ use Rattle.card_directory.specs.Fields.{Head, Tail, firstIn, sizeIn}
 use Rattle.card_chains.specs.Marks.{isMarked, Lengths, outcome, broken, Walkable, Walked, IsAfter}
 use Rattle.card_chains.proofs.MarkLaws.{marked-set, set-each, any-same}
 
-pub step-below : (table : List ℕ) (b n : ℕ) {l : Link} → l ≡ linkAt table b → l ≡ Next n → n < 200
+pub step-below : (table : List ℕ) (b n : ℕ) → linkAt table b ≡ Next n → n < 200
 unfolding linkAt
-step-below table b n q told = next-below _ n (sym q ∙ told)
+step-below table b n told = next-below _ n told
 
 pub chain-none : (table : List ℕ) (left b : ℕ) → left ≡ 0 → chain table left b ≡ none
 unfolding chain
@@ -117,8 +117,12 @@ module _ (table : List ℕ) where
               let g : found ≡ broken = q ∙ rw d in
               rw g (walked-broken marks (set marks b left) (e ∙ rw f))
 
-      module _ (n : ℕ) (e : chain table left b ≡ Option·map (λ (blocks : List ℕ). b ∷ blocks) (chain table (left - 1) n)) where
-        pub walkable-next : Walkable table (set marks b left) (left - 1) n
+      module _ (n : ℕ) (told : linkAt table b ≡ Next n) where
+        e : chain table left b ≡ Option·map (λ (blocks : List ℕ). b ∷ blocks) (chain table (left - 1) n)
+        unfolding chainStep
+        e = chain-step table left b some-left refl told
+
+        walkable-next : Walkable table (set marks b left) (left - 1) n
         walkable-next = record {
           many = set-many;
           up-to-left = set-each marks b left long (λ x m. m ≤ left - 1 → isSome (chain table m x) ≡ true)
@@ -130,6 +134,10 @@ module _ (table : List ℕ) where
             maps : (o : Option (List ℕ)) → isSome (Option·map (λ (blocks : List ℕ). b ∷ blocks) o) ≡ isSome o
             maps none = refl
             maps (some bs) = refl
+
+        -- what the walk from the next block asks
+        pub next-asked : left ≤ 200 → ((n < 200) × (left - 1 ≤ 200)) × Walkable table (set marks b left) (left - 1) n
+        next-asked h = ((step-below table b n told, omega (arith, h)), walkable-next)
 
         pub walked-next : {found : ℕ} {marks′ : List ℕ} → Walked table (chain table (left - 1) n) (set marks b left) found marks′
             → Walked table (chain table left b) marks found marks′

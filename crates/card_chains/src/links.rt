@@ -1,22 +1,31 @@
 // What an array of the table says of a block. The walks recurse over the array and not over the card: a slice has a length beside
 // its address and goes through memory at each call, and then the compiler doesn't make a loop of the recursion.
-use card_model::Link;
-use card_table::classify;
 ghost use mathlib.Core.Path.{_≡_};
-ghost use Prim.Native.Nat.{_<_};
-ghost use Rattle.card_model.specs.Table.{linkAt};
+ghost use mathlib.Core.Bool.{_&&_};
+ghost use Prim.Native.Nat.{_+_, _<_};
+ghost use lib.Dec.{eqb, ltb};
+ghost use Rattle.card_model.specs.Table.{fatEntry};
 
 // An entry as a wider number: of a parameter the prover knows that it fits, of an element of a lent array it does not.
 fn wide(e: u16) -> usize
-    ensures { λ r. ⌜ r ≡ e ⌝ }
+    ensures { λ r. ⌜ (r ≡ e) × (r < 65536) ⌝ }
 {
     e as usize
 }
 
-// What the table says of a block.
-pub(crate) fn link_in(table: &[u16; 256], b: usize) -> Link
+// The table's entry of a block.
+pub(crate) fn entry_in(table: &[u16; 256], b: usize) -> usize
     requires { ⌜ b < 256 ⌝ }
-    ensures { λ r. ⌜ r ≡ linkAt (now (table .entry)) b ⌝ }
+    ensures { λ r. ⌜ (r ≡ fatEntry (now (table .entry)) b) × (r < 65536) ⌝ }
 {
-    classify(wide(table[b]))
+    wide(table[b])
+}
+
+// Whether an entry names the block above. It is a test of the difference: where one number is known to be the other, the compiler
+// may take either, and the walks are to go on with the block's.
+pub(crate) fn is_above(e: usize, block: usize) -> bool
+    requires { ⌜ (e < 65536) × (block < 200) ⌝ }
+    ensures { λ r. ⌜ r ≡ (ltb e 200 && eqb e (block + 1)) ⌝ }
+{
+    (e < 200) & (e + 200 - block == 201)
 }

@@ -1,6 +1,10 @@
-// Walks along a chain, with one fewer block left at each step.
-use crate::links::link_in;
+// Walks along a chain, with one fewer block left at each step. As a rule a block's neighbour follows it, the one below or in a game
+// the one above. A step to a neighbour goes on with its number and not with the entry, so that the next step, which the processor
+// begins before the entry is read, need not wait for it.
+use crate::links::entry_in;
+use crate::links::is_above;
 use card_model::Link;
+use card_table::classify;
 use card_table::read_table;
 ghost use mathlib.Core.Path.{_≡_};
 ghost use mathlib.Core.Bool.{cond};
@@ -46,7 +50,14 @@ pub(crate) fn walk(table: &[u16; 256], marks: &mut [u8; 200], block: usize, left
         return ended(mark == own, SHARED);
     }
     marks[block] = own;
-    match link_in(table, block) {
+    let e = entry_in(table, block);
+    if e + 1 == block {
+        return walk(table, marks, block - 1, left - 1);
+    }
+    if is_above(e, block) {
+        return walk(table, marks, block + 1, left - 1);
+    }
+    match classify(e) {
         Link::Last => ended(left == 1, APART),
         Link::Next(n) => walk(table, marks, n, left - 1),
         Link::Free => BROKEN,
@@ -64,7 +75,14 @@ fn follow(table: &[u16; 256], block: usize, left: usize) -> usize
     if left == 0 {
         return block;
     }
-    match link_in(table, block) {
+    let e = entry_in(table, block);
+    if e + 1 == block {
+        return follow(table, block - 1, left - 1);
+    }
+    if is_above(e, block) {
+        return follow(table, block + 1, left - 1);
+    }
+    match classify(e) {
         Link::Next(n) => follow(table, n, left - 1),
         Link::Last => block,
         Link::Free => block,
