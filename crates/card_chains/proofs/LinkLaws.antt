@@ -5,15 +5,12 @@ use mathlib.Core.Bool.{Bool, true, false, _&&_}
 use mathlib.Core.List.{List}
 use native.Mathlib.Omega.{arith}
 use lib.Dec.{eqb, ltb}
-use borrow.Author.Tests.{eqb-true, eqb-false, eq-eqb, ne-eqb, ltb-true, lt-ltb}
+use borrow.Author.Tests.{eqb-true, eqb-false, eq-eqb, ne-eqb, ltb-true}
 use Rattle.words.proofs.Bools.{and-true-left, and-true-right}
 use Rattle.card_model.specs.declared.Link.{Link}
 use Rattle.card_model.specs.declared.Link.the-variants.{Next}
 use Rattle.card_model.specs.Table.{fatEntry, linkOf, linkAt}
-
-next : (e : ℕ) → e < 200 → linkOf e ≡ Next e
-unfolding linkOf
-next e h = simp (ne-eqb e 0xFFFC (λ q. omega (arith, h, q)), ne-eqb e 0xFFFF (λ q. omega (arith, h, q)), ne-eqb e 0xFFFA (λ q. omega (arith, h, q)), lt-ltb e 200 h)
+use Rattle.card_table.proofs.TableLaws.{names-next}
 
 module _ (table : List ℕ) (b : ℕ) {e : ℕ} (q : e ≡ fatEntry table b) where
   pub link-read : {l : Link} → l ≡ linkOf e → l ≡ linkAt table b
@@ -22,7 +19,7 @@ module _ (table : List ℕ) (b : ℕ) {e : ℕ} (q : e ≡ fatEntry table b) whe
 
   names : (n : ℕ) → e ≡ n → n < 200 → linkAt table b ≡ Next n
   unfolding linkAt
-  names n p h = ap linkOf (sym q ∙ p) ∙ next n h
+  names n p h = ap linkOf (sym q ∙ p) ∙ names-next n h
 
   pub names-below : e + 1 ≡ b → b < 200 → linkAt table b ≡ Next (b - 1)
   names-below p h = names (b - 1) (omega arith) (omega arith)

@@ -1,11 +1,11 @@
 -- The table as the card's bytes give it, and its rows one after the other. Assumes nothing.
 use Prim.Native.Nat.{ℕ, _+_, _-_, _*_, _≤_, _<_}
 use mathlib.Core.Path.{_≡_, sym, ap, _∙_}
-use mathlib.Core.Bool.{Bool, true, not}
+use mathlib.Core.Bool.{Bool, false}
 use mathlib.Core.List.{List, map}
-use mathlib.Core.Option.{none}
+use mathlib.Core.Option.{none, some}
 use native.Mathlib.Omega.{arith}
-use borrow.Author.Tests.{eq-eqb, not-true}
+use borrow.Author.Tests.{eq-eqb, ne-eqb, lt-ltb}
 use native.Mathlib.Decide.{ℕ-discrete}
 use lib.ListN.{length, getD, take, drop, set, length-set, length-map}
 use lib.Seq.{getD-take, getD-drop, getD-set-same, getD-set-other, ext-getD}
@@ -17,10 +17,12 @@ use Rattle.words.proofs.JoinLaws.{none-range}
 use Rattle.words.proofs.PartsLaws.{numbers-length}
 use Rattle.words.proofs.SearchLaws.{lowest-nothing}
 use Rattle.verdicts.specs.declared.Verdict.{Verdict}
-use Rattle.verdicts.specs.Rows.{unlessRefused}
+use Rattle.verdicts.specs.declared.Place.the-variants.{Block}
+use Rattle.verdicts.specs.Rows.{done, refusedAt, unlessRefused}
 use Rattle.verdicts.proofs.RowLaws.{refused-first, not-refused, rows-joined}
 use Rattle.card_model.specs.Layout.{cardLength, fatPlace, tableOf}
-use Rattle.card_model.specs.Table.{fatEntry, magicRow, fieldsRow}
+use Rattle.card_model.specs.declared.Link.the-variants.{Next}
+use Rattle.card_model.specs.Table.{fatEntry, linkOf, magicRow, fieldsRow, wrongSystem, wrongHidden, wrongUser, systemRow, hiddenRow, userRow}
 use Rattle.card_model.specs.Calls.{lengthRow, tableRows}
 use Rattle.card_table.specs.declared.Region.{Region}
 use Rattle.card_table.specs.declared.Region.the-variants.{System, Hidden, User}
@@ -58,6 +60,12 @@ read-all card table b e h =
     let n : length (map (λ i. word card (fatPlace i)) (numbersFrom 0 256)) ≡ 256 = length-map (numbersFrom 0 256) (λ i. word card (fatPlace i)) ∙ numbers-length 0 256 in
     ext-getD 0 table (map (λ i. word card (fatPlace i)) (numbersFrom 0 256)) (h .0 ∙ sym n) (λ i k. h .1 i (omega (arith, h .0)))
 
+-- an entry below 200 names a block
+pub names-next : (e : ℕ) → e < 200 → linkOf e ≡ Next e
+unfolding linkOf
+names-next e h =
+    simp (ne-eqb e 0xFFFC (λ q. omega (arith, h, q)), ne-eqb e 0xFFFF (λ q. omega (arith, h, q)), ne-eqb e 0xFFFA (λ q. omega (arith, h, q)), lt-ltb e 200 h)
+
 -- what a region asks of its first block it has of every later one
 pub ready-later : (region : Region) (a b : ℕ) → a ≤ b → Ready region a → Ready region b
 ready-later System a b h r = omega arith
@@ -65,8 +73,34 @@ ready-later Hidden a b h r = tt
 ready-later User a b h r = tt
 
 -- where no number of a range passes the test, none is found
-pub none-wrong : (p : ℕ → Bool) (a n : ℕ) (r : Bool) → r ≡ anyOf p (numbersFrom a n) → not r ≡ true → lowest p a n ≡ none
-none-wrong p a n r e t = lowest-nothing p a n (none-range p a n (sym e ∙ not-true r t))
+none-wrong : (p : ℕ → Bool) (a n : ℕ) (r : Bool) → r ≡ anyOf p (numbersFrom a n) → r ≡ false → lowest p a n ≡ none
+none-wrong p a n r e t = lowest-nothing p a n (none-range p a n (sym e ∙ t))
+
+-- rows 23 to 25 by what is found
+module _ (table : List ℕ) where
+  pub system-refused : (b : ℕ) → lowest (wrongSystem table) 241 15 ≡ some b → refusedAt 23 (Block b) ≡ entryRows table
+  unfolding entryRows systemRow
+  system-refused b e = rw e
+
+  module _ {s : Bool} (p : s ≡ anyOf (wrongSystem table) (numbersFrom 241 15)) (no-s : s ≡ false) where
+    system : lowest (wrongSystem table) 241 15 ≡ none
+    system = none-wrong (wrongSystem table) 241 15 s p no-s
+
+    pub hidden-refused : (b : ℕ) → lowest (wrongHidden table) 200 41 ≡ some b → refusedAt 24 (Block b) ≡ entryRows table
+    unfolding entryRows systemRow hiddenRow
+    hidden-refused b e = rw (system, e)
+
+    module _ {h : Bool} (q : h ≡ anyOf (wrongHidden table) (numbersFrom 200 41)) (no-h : h ≡ false) where
+      hidden : lowest (wrongHidden table) 200 41 ≡ none
+      hidden = none-wrong (wrongHidden table) 200 41 h q no-h
+
+      pub user-refused : (b : ℕ) → lowest (wrongUser table) 0 200 ≡ some b → refusedAt 25 (Block b) ≡ entryRows table
+      unfolding entryRows systemRow hiddenRow userRow
+      user-refused b e = rw (system, hidden, e)
+
+      pub none-refused : {u : Bool} → u ≡ anyOf (wrongUser table) (numbersFrom 0 200) → u ≡ false → done ≡ entryRows table
+      unfolding entryRows systemRow hiddenRow userRow
+      none-refused {u} e no-u = rw (system, hidden, none-wrong (wrongUser table) 0 200 u e no-u)
 
 pub after-length : (card : List ℕ) (later : Verdict) → length card ≡ 131072 → unlessRefused (lengthRow card) later ≡ later
 unfolding lengthRow cardLength

@@ -7,12 +7,13 @@ use verdicts::refused_at;
 use words::same;
 use words::word;
 ghost use mathlib.Core.Path.{_≡_};
+ghost use mathlib.Core.Bool.{true};
+ghost use mathlib.Core.Option.{some};
 ghost use Prim.Native.Nat.{_-_, _≤_, _<_};
 ghost use lib.ListN.{length};
 ghost use Rattle.words.specs.Lists.{anyOf, numbersFrom};
 ghost use Rattle.words.specs.Search.{lowest};
-ghost use Rattle.verdicts.specs.declared.Place.the-variants.{Block};
-ghost use Rattle.verdicts.specs.Rows.{rowOver, unlessRefused};
+ghost use Rattle.verdicts.specs.Rows.{unlessRefused};
 ghost use Rattle.card_model.specs.Layout.{rootOf, tableOf};
 ghost use Rattle.card_model.specs.Table.{magicRow, fieldsRow, rightFields, fatEntry, linkOf, systemEntry, freeOrDamaged, isBad};
 ghost use Rattle.card_model.specs.Calls.{lengthRow, tableRows};
@@ -92,6 +93,16 @@ fn is_bad(link: Link) -> bool
     }
 }
 
+// What row 25 asks of an entry. The match tests its single numbers first, and most entries of a card with files are below 200.
+fn is_wrong_user(e: usize) -> bool
+    ensures { λ r. ⌜ r ≡ isBad (linkOf e) ⌝ }
+{
+    if e < 200 {
+        return false;
+    }
+    is_bad(classify(e))
+}
+
 // What the table has to say of a system block.
 fn system_entry(b: usize) -> usize
     requires { ⌜ 1 ≤ b ⌝ }
@@ -103,67 +114,72 @@ fn system_entry(b: usize) -> usize
     b - 1
 }
 
-fn is_wrong(table: &[u16], region: Region, b: usize) -> bool
-    requires { ⌜ (length (now table) ≡ 256) × (b < 256) ⌝ }
+fn is_wrong(card: &[u8], region: Region, b: usize) -> bool
+    requires { ⌜ (length (now card) ≡ 131072) × (b < 256) ⌝ }
     requires { ⌜ Ready region b ⌝ }
-    ensures { λ r. ⌜ r ≡ wrongIn region (now (table .entry)) b ⌝ }
+    ensures { λ r. ⌜ r ≡ wrongIn region (tableOf (now (card .entry))) b ⌝ }
 {
-    let e = table[b] as usize;
+    let e = fat_entry(card, b);
     match region {
         Region::System => e != system_entry(b),
         Region::Hidden => !free_or_damaged(classify(e)),
-        Region::User => is_bad(classify(e)),
+        Region::User => is_wrong_user(e),
     }
 }
 
 // Whether a block of a range is wrong. The loop has no way out, so that it is compiled to steps of several entries.
-fn any_wrong(table: &[u16], region: Region, from: usize, to: usize) -> bool
-    requires { ⌜ (length (now table) ≡ 256) × (to ≤ 256) ⌝ }
+fn any_wrong(card: &[u8], region: Region, from: usize, to: usize) -> bool
+    requires { ⌜ (length (now card) ≡ 131072) × (to ≤ 256) ⌝ }
     requires { ⌜ Ready region from ⌝ }
-    ensures { λ r. ⌜ r ≡ anyOf (wrongIn region (now (table .entry))) (numbersFrom from (to - from)) ⌝ }
+    ensures { λ r. ⌜ r ≡ anyOf (wrongIn region (tableOf (now (card .entry)))) (numbersFrom from (to - from)) ⌝ }
 {
     let mut wrong = false;
     let mut b = from;
     while b < to {
-        wrong = wrong | is_wrong(table, region, b);
+        wrong = wrong | is_wrong(card, region, b);
         b += 1;
     }
     wrong
 }
 
-// The refusal of this number at the first wrong block of a range, which is looked for only where there is one.
-fn row(table: &[u16], region: Region, number: u8, from: usize, to: usize) -> Verdict
-    requires { ⌜ (length (now table) ≡ 256) × (to ≤ 256) ⌝ }
+// The first wrong block of a range, which is looked for only where there is one.
+fn first_wrong(card: &[u8], region: Region, from: usize, to: usize) -> usize
+    requires { ⌜ (length (now card) ≡ 131072) × (to ≤ 256) ⌝ }
     requires { ⌜ Ready region from ⌝ }
-    ensures { λ r. ⌜ r ≡ rowOver number Block (lowest (wrongIn region (now (table .entry))) from (to - from)) ⌝ }
+    requires { ⌜ anyOf (wrongIn region (tableOf (now card))) (numbersFrom from (to - from)) ≡ true ⌝ }
+    ensures { λ r. ⌜ lowest (wrongIn region (tableOf (now (card .entry)))) from (to - from) ≡ some r ⌝ }
 {
-    if !any_wrong(table, region, from, to) {
-        return done();
-    }
     let mut b = from;
     while b < to {
-        if is_wrong(table, region, b) {
-            return refused_at(number, Place::Block(b));
+        if is_wrong(card, region, b) {
+            return b;
         }
         b += 1;
     }
-    done()
+    to
 }
 
-// Refusals 23 to 25.
-fn entries_verdict(table: &[u16]) -> Verdict
-    requires { ⌜ length (now table) ≡ 256 ⌝ }
-    ensures { λ r. ⌜ r ≡ entryRows (now (table .entry)) ⌝ }
+// Refusals 23 to 25. The table is read where it stands.
+fn entries_verdict(card: &[u8]) -> Verdict
+    requires { ⌜ length (now card) ≡ 131072 ⌝ }
+    ensures { λ r. ⌜ r ≡ entryRows (tableOf (now (card .entry))) ⌝ }
 {
-    let system = row(table, Region::System, 23, 241, 256);
-    if system.number != 0 {
-        return system;
+    if any_wrong(card, Region::System, 241, 256) {
+        return refused_at(
+            23,
+            Place::Block(first_wrong(card, Region::System, 241, 256)),
+        );
     }
-    let hidden = row(table, Region::Hidden, 24, 200, 241);
-    if hidden.number != 0 {
-        return hidden;
+    if any_wrong(card, Region::Hidden, 200, 241) {
+        return refused_at(
+            24,
+            Place::Block(first_wrong(card, Region::Hidden, 200, 241)),
+        );
     }
-    row(table, Region::User, 25, 0, 200)
+    if any_wrong(card, Region::User, 0, 200) {
+        return refused_at(25, Place::Block(first_wrong(card, Region::User, 0, 200)));
+    }
+    done()
 }
 
 fn right_fields(root: &[u8]) -> bool
@@ -202,6 +218,5 @@ pub fn table_verdict(card: &[u8]) -> Verdict
     if root.number != 0 {
         return root;
     }
-    let table = read_table(card);
-    entries_verdict(&table)
+    entries_verdict(card)
 }

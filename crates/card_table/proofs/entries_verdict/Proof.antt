@@ -1,53 +1,100 @@
 -- `entries_verdict` meets its contract: the first row that refuses, in order. Assumes nothing.
-use mathlib.Core.Path.{_≡_, sym, _∙_}
-use Rattle.verdicts.proofs.RowLaws.{refused-first, not-refused}
-use Rattle.card_model.specs.Table.{systemRow, hiddenRow, userRow}
-use Rattle.card_table.specs.Regions.{entryRows}
+use mathlib.Core.Path.{sym, _∙_}
+use native.Mathlib.Omega.{arith}
+use Rattle.card_model.specs.Layout.{tableOf}
+use Rattle.card_table.proofs.TableLaws.{system-refused, hidden-refused, user-refused, none-refused}
 use borrow.Author.Needs.{needs}
 use Rattle.card_table.proofs.entries_verdict.Statement.{statement}
 use Rattle.card_table.proofs.entries_verdict.Tie as tie
 
-row-requires : tie.Need-row-requires
-row-requires c κs = search needs
+any-wrong-requires : tie.Need-any-wrong-requires
+any-wrong-requires c κs = search needs
+
+first-wrong-requires : tie.Need-first-wrong-requires
+first-wrong-requires c κs =
+    let w = c .before in
+    ((w .before .before .pre, omega arith), (omega arith, sym (w .any-wrong .ensures) ∙ c .if1 .taken))
+
+refused-at-requires : tie.Need-refused-at-requires
+refused-at-requires c κs = search needs
 
 returns : tie.Need-returns
-unfolding entryRows systemRow
 returns c =
-    let s = c .before .before .row in
-    let table = c .before .before .before .before .args .table .now in
-    sym (refused-first (systemRow table) _ (s .result) (s .ensures) (c .if1 .taken))
+    let f = c .before in
+    c .refused-at .ensures ∙ system-refused (tableOf (f .before .before .before .before .args .card .now)) _ (f .first-wrong .ensures)
 
-row-requires-2 : tie.Need-row-requires-2
-row-requires-2 c κs = search needs
+any-wrong-requires-2 : tie.Need-any-wrong-requires-2
+any-wrong-requires-2 c κs = search needs
+
+first-wrong-requires-2 : tie.Need-first-wrong-requires-2
+first-wrong-requires-2 c κs =
+    let w = c .before in
+    ((w .before .before .before .before .pre, omega arith), (tt, sym (w .any-wrong2 .ensures) ∙ c .if2 .taken))
+
+refused-at-requires-2 : tie.Need-refused-at-requires-2
+refused-at-requires-2 c κs = search needs
 
 returns-2 : tie.Need-returns-2
-unfolding entryRows systemRow hiddenRow
 returns-2 c =
-    let h = c .before .before .row2 in
-    let i = c .before .before .before in
-    let s = i .before .before .row in
-    let table = i .before .before .before .before .args .table .now in
-    sym
-    (not-refused (systemRow table) _ (s .result) (s .ensures) (i .if1 .left)
-    ∙ refused-first (hiddenRow table) _ (h .result) (h .ensures) (c .if2 .taken))
+    let f = c .before in
+    let i = f .before .before .before in
+    let table = tableOf (i .before .before .before .args .card .now) in
+    c .refused-at2 .ensures ∙ hidden-refused table (i .before .any-wrong .ensures) (i .if1 .left) _ (f .first-wrong2 .ensures)
 
-row-requires-3 : tie.Need-row-requires-3
-row-requires-3 c κs = search needs
+any-wrong-requires-3 : tie.Need-any-wrong-requires-3
+any-wrong-requires-3 c κs = search needs
+
+first-wrong-requires-3 : tie.Need-first-wrong-requires-3
+first-wrong-requires-3 c κs =
+    let w = c .before in
+    ((w .before .before .before .before .before .before .pre, omega arith), (tt, sym (w .any-wrong3 .ensures) ∙ c .if3 .taken))
+
+refused-at-requires-3 : tie.Need-refused-at-requires-3
+refused-at-requires-3 c κs = search needs
 
 returns-3 : tie.Need-returns-3
-unfolding entryRows systemRow hiddenRow userRow
 returns-3 c =
-    let j = c .before in
-    let h = j .before .before .row2 in
-    let i = j .before .before .before in
-    let s = i .before .before .row in
-    let table = i .before .before .before .before .args .table .now in
-    let u : c .row3 .result ≡ userRow table = c .row3 .ensures in
-    u
-    ∙ sym
-    (not-refused (systemRow table) _ (s .result) (s .ensures) (i .if1 .left)
-    ∙ not-refused (hiddenRow table) (userRow table) (h .result) (h .ensures) (j .if2 .left))
+    let f = c .before in
+    let j = f .before .before .before in
+    let i = j .before .before in
+    let table = tableOf (i .before .before .before .args .card .now) in
+    c .refused-at3 .ensures
+    ∙ user-refused table (i .before .any-wrong .ensures) (i .if1 .left) (j .before .any-wrong2 .ensures) (j .if2 .left) _ (f .first-wrong3 .ensures)
+
+done-requires : tie.Need-done-requires
+done-requires c κs = search needs
+
+returns-4 : tie.Need-returns-4
+returns-4 c =
+    let k = c .before in
+    let j = k .before .before in
+    let i = j .before .before in
+    let table = tableOf (i .before .before .before .args .card .now) in
+    c .done .ensures
+    ∙ none-refused
+    table
+    (i .before .any-wrong .ensures)
+    (i .if1 .left)
+    (j .before .any-wrong2 .ensures)
+    (j .if2 .left)
+    (k .before .any-wrong3 .ensures)
+    (k .if3 .left)
 
 pub entries-verdict-spec : {M : Type 1} → statement M
 entries-verdict-spec =
-    tie.close (tie.spec row-requires returns row-requires-2 returns-2 row-requires-3 returns-3)
+    tie.close
+    (tie.spec
+    any-wrong-requires
+    first-wrong-requires
+    refused-at-requires
+    returns
+    any-wrong-requires-2
+    first-wrong-requires-2
+    refused-at-requires-2
+    returns-2
+    any-wrong-requires-3
+    first-wrong-requires-3
+    refused-at-requires-3
+    returns-3
+    done-requires
+    returns-4)

@@ -1,21 +1,14 @@
 -- `is_wrong` meets its contract: one arm for each region. Assumes nothing.
 use mathlib.Core.Path.{subst}
-use native.Mathlib.Omega.{arith}
 use Rattle.card_table.specs.declared.Region.{Region}
 use Rattle.card_table.specs.Regions.{Ready}
-use Rattle.card_model.specs.Table.{fatEntry, linkAt, wrongSystem, wrongHidden, wrongUser}
+use Rattle.card_model.specs.Table.{linkAt, wrongSystem, wrongHidden, wrongUser}
 use borrow.Author.Needs.{needs}
 use Rattle.card_table.proofs.is_wrong.Statement.{statement}
 use Rattle.card_table.proofs.is_wrong.Tie as tie
 
-mul-e : tie.Need-mul-e
-mul-e c = search needs
-
-shared-slice-read-e : tie.Need-shared-slice-read-e
-shared-slice-read-e c = search needs
-
-cast-e : tie.Need-cast-e
-cast-e c = omega (arith, c .shared-slice-known2 .given (c .before .before .args .b))
+fat-entry-requires : tie.Need-fat-entry-requires
+fat-entry-requires c κs = search needs
 
 enum-told : tie.Need-enum-told
 enum-told c = search needs
@@ -37,39 +30,39 @@ free-or-damaged-requires c κs = search needs
 enum-told-3 : tie.Need-enum-told-3
 enum-told-3 c = search needs
 
-classify-requires-2 : tie.Need-classify-requires-2
-classify-requires-2 c κs = search needs
-
-is-bad-requires : tie.Need-is-bad-requires
-is-bad-requires c κs = search needs
+is-wrong-user-requires : tie.Need-is-wrong-user-requires
+is-wrong-user-requires c κs = search needs
 
 returns : tie.Need-returns
-unfolding wrongSystem fatEntry
-returns c = rw (c .before .enum-told .given .1, c .system-entry .ensures)
+unfolding wrongSystem
+returns c =
+    let t = c .before in
+    rw (t .enum-told .given .1, c .system-entry .ensures, t .before .before .fat-entry .ensures .0)
 
 returns-2 : tie.Need-returns-2
-unfolding wrongHidden linkAt fatEntry
-returns-2 c = rw (c .before .before .enum-told2 .given .1, c .free-or-damaged .ensures, c .before .classify .ensures)
+unfolding wrongHidden linkAt
+returns-2 c =
+    let t = c .before .before in
+    rw (t .enum-told2 .given .1, c .free-or-damaged .ensures, c .before .classify .ensures, t .before .before .fat-entry .ensures .0)
 
 returns-3 : tie.Need-returns-3
-unfolding wrongUser linkAt fatEntry
-returns-3 c = rw (c .before .before .enum-told3 .given .1, c .is-bad .ensures, c .before .classify2 .ensures)
+unfolding wrongUser linkAt
+returns-3 c =
+    let t = c .before in
+    rw (t .enum-told3 .given .1, c .is-wrong-user .ensures, t .before .before .fat-entry .ensures .0)
 
 pub is-wrong-spec : {M : Type 1} → statement M
 is-wrong-spec =
     tie.close
     (tie.spec
-    mul-e
-    shared-slice-read-e
-    cast-e
+    fat-entry-requires
     enum-told
     system-entry-requires
     enum-told-2
     classify-requires
     free-or-damaged-requires
     enum-told-3
-    classify-requires-2
-    is-bad-requires
+    is-wrong-user-requires
     returns
     returns-2
     returns-3)

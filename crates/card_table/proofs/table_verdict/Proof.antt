@@ -1,10 +1,9 @@
 -- `table_verdict` meets its contract: the first row that refuses, in order. Assumes nothing.
-use mathlib.Core.Path.{sym, ap, _∙_}
+use mathlib.Core.Path.{sym, _∙_}
 use borrow.Author.Tests.{ne-eqb}
 use lib.ListN.{length}
 use Rattle.card_model.specs.Layout.{cardLength, blockAt, rootOf, tableOf}
 use Rattle.card_model.specs.Calls.{lengthRow}
-use Rattle.card_table.specs.Regions.{entryRows}
 use Rattle.card_table.proofs.TableLaws.{after-length, root-refused, root-passed}
 use borrow.Author.Needs.{needs}
 use Rattle.card_table.proofs.table_verdict.Statement.{statement}
@@ -37,25 +36,17 @@ returns-2 c =
     let card = l .before .before .args .card .now in
     sym (after-length card _ (l .if1 .left) ∙ root-refused (rootOf card) (tableOf card) (v .result) (v .ensures) (c .if2 .taken))
 
-read-table-requires : tie.Need-read-table-requires
-read-table-requires c κs = search needs
-
-slice-aggregate-entries-verdict : tie.Need-slice-aggregate-entries-verdict
-slice-aggregate-entries-verdict c = search needs
-
 entries-verdict-requires : tie.Need-entries-verdict-requires
 entries-verdict-requires c κs = search needs
 
 returns-3 : tie.Need-returns-3
 unfolding rootOf blockAt
 returns-3 c =
-    let t = c .before .before .read-table in
-    let i = c .before .before .before in
+    let i = c .before in
     let v = i .before .before .root-verdict in
     let l = i .before .before .before .before in
     let card = l .before .before .args .card .now in
     c .entries-verdict .ensures
-    ∙ ap entryRows (t .ensures)
     ∙ sym (after-length card _ (l .if1 .left) ∙ root-passed (rootOf card) (tableOf card) (v .result) (v .ensures) (i .if2 .left))
 
 pub table-verdict-spec : {M : Type 1} → statement M
@@ -69,7 +60,5 @@ table-verdict-spec =
     part-root-verdict-end
     root-verdict-requires
     returns-2
-    read-table-requires
-    slice-aggregate-entries-verdict
     entries-verdict-requires
     returns-3)
