@@ -83,6 +83,9 @@ pub fn walk_files(
     ensures { λ r. ⌜ r ≡ chainRows (tableOf (now (card .entry))) (directoryOf (now (card .entry))) ⌝ }
     ensures { λ r. ⌜ (accepted r ≡ true → Marking (filesBefore (tableOf (now (card .entry))) (directoryOf (now (card .entry))) 208) (now (marks .exit))) ⌝ }
 {
+    if count == 0 {
+        return done();
+    }
     let table = read_table(card);
     let mut first: usize = 208;
     let mut j = 0;

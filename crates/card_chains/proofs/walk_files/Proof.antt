@@ -12,7 +12,7 @@ use Rattle.verdicts.specs.Rows.{done, refusedAt, accepted}
 use Rattle.card_model.specs.Layout.{tableOf, directoryOf}
 use Rattle.card_model.specs.Entries.{entryAt}
 use Rattle.card_model.specs.Files.{badChain, chainRow, filesBefore, sharesBlock, sharingRow}
-use Rattle.card_directory.specs.Listed.{reached}
+use Rattle.card_directory.specs.Listed.{reached, Listed}
 use Rattle.card_directory.proofs.ListedLaws.{reached-next, listed-below, listed-used, holds-at, stays, stays-to-end, firstFrom, found-here, found-later, found-none}
 use Rattle.card_chains.specs.Marks.{Lengths, Marking, chainRows}
 use Rattle.card_chains.proofs.MarkLaws.{lengths-start, marking-start, files-stay, unused-bad, unused-shares, walk-broken, walk-lengths, walk-shares, walk-marking}
@@ -63,24 +63,48 @@ module _ (card : List ℕ) where
     unfolding chainRow firstFrom sharingRow firstBefore
     neither-refused e = rw (sound, e)
 
+-- where all files are passed, j of them
+module _ (card : List ℕ) {used : List ℕ} {count : ℕ} (list : Listed (directoryOf card) 208 used count) (j : ℕ) (z : j ≡ count) where
+  none-bad : firstFrom (bad card) 0 ≡ firstFrom (bad card) (reached used j) → firstFrom (bad card) 0 ≡ none
+  none-bad e = e ∙ found-none _ (bad card) (unused-bad _ _) list j z
+
+  first-of-all : {first : ℕ} → first ≡ orEnd 208 (firstBefore (shares card) (reached used j)) → first ≡ orEnd 208 (firstBefore (shares card) 208)
+  first-of-all e = e ∙ ap (orEnd 208) (stays-to-end _ (firstBefore (shares card)) (λ k q. before-same _ k (unused-shares _ _ k q)) list j z)
+
+  all-marked : {marks : List ℕ} → Marking (files card (reached used j)) marks → Marking (files card 208) marks
+  all-marked m = rw (stays-to-end _ (files card) (files-stay _ _) list j z) at m
+
+done-requires : tie.Need-done-requires Inv-loop μ-loop
+done-requires c κs = search needs
+
+returns : tie.Need-returns Inv-loop μ-loop
+returns c =
+    let d = c .before in
+    let a = d .before .before in
+    let card = a .args .card .now in
+    let list = a .pre .1 .0 in
+    let z : 0 ≡ a .args .count = sym (d .if1 .taken) in
+    let free = first-none (shares card) _ _ (first-of-all card list 0 z (start card)) (omega arith) in
+    (c .done .ensures ∙ neither-refused card (none-bad card list 0 z refl) free, λ e. all-marked card list 0 z (rw (a .pre .0 .1) (marking-start _ _)))
+
 read-table-requires : tie.Need-read-table-requires Inv-loop μ-loop
 read-table-requires c κs = search needs
 
 loop-holds : tie.Need-loop-holds Inv-loop μ-loop
 loop-holds c =
-    let none = c .before .before .pre .0 .1 in
+    let none = c .before .before .before .pre .0 .1 in
     (omega arith, rw none (lengths-start _), refl, start _, λ h. rw none (marking-start _ _))
 
 listed-at-requires : tie.Need-listed-at-requires Inv-loop μ-loop
 listed-at-requires c κs =
-    let a = c .before .before .before .before in
+    let a = c .before .before .before .before .before in
     omega (arith, a .pre .1 .0 .fits)
 
 walk-file-requires : tie.Need-walk-file-requires Inv-loop μ-loop
 walk-file-requires c κs =
     let n = c .before .before in
     let l = n .before .before in
-    let a = l .before .before .before in
+    let a = l .before .before .before .before in
     let list = a .pre .1 .0 in
     let e = n .listed-at .ensures in
     let j = l .loop .j in
@@ -93,15 +117,15 @@ walk-file-requires c κs =
 refused-at-requires : tie.Need-refused-at-requires Inv-loop μ-loop
 refused-at-requires c κs = search needs
 
-returns : tie.Need-returns Inv-loop μ-loop
-returns c =
+returns-2 : tie.Need-returns-2 Inv-loop μ-loop
+returns-2 c =
     let d = c .before in
     let w = d .before in
     let v = c .refused-at .ensures in
     let n = w .before .before .before in
     let l = n .before .before in
     let r = l .before in
-    let a = r .before .before in
+    let a = r .before .before .before in
     let card = a .args .card .now in
     let list = a .pre .1 .0 in
     let j = l .loop .j in
@@ -109,7 +133,7 @@ returns c =
     let h : j < a .args .count = omega arith in
     let fields = a .pre .1 .1 .1 in
     let walked = fields-walked (holds-at (fields .in-heads) j _ e h) (holds-at (fields .in-tails) j _ e h) (rw (r .read-table .ensures) at (w .walk-file .ensures)) in
-    let b = sym (walk-broken _ _ _ (listed-used list j _ e h) walked) ∙ eq-eqb _ _ (d .if1 .taken) in
+    let b = sym (walk-broken _ _ _ (listed-used list j _ e h) walked) ∙ eq-eqb _ _ (d .if2 .taken) in
     (v ∙ chain-refused card _ (l .loop .inv .2 ∙ found-here _ (bad card) (unused-bad _ _) list j _ e h b), λ e. absurd (false≢true (sym (ap accepted v) ∙ e)))
 
 remember-requires : tie.Need-remember-requires Inv-loop μ-loop
@@ -127,7 +151,7 @@ loop-again c =
     let n = w .before .before .before in
     let l = n .before .before in
     let r = l .before in
-    let a = r .before .before in
+    let a = r .before .before .before in
     let card = a .args .card .now in
     let list = a .pre .1 .0 in
     let j = l .loop .j in
@@ -140,7 +164,7 @@ loop-again c =
     let walked = fields-walked (holds-at (fields .in-heads) j _ e h) (holds-at (fields .in-tails) j _ e h) (rw (r .read-table .ensures) at (w .walk-file .ensures)) in
     let same = stays _ (files card) (files-stay _ _) list j _ e h in
     let m = rw same at (l .loop .inv .4) in
-    let sound = ne-eqb _ _ (c .before .if1 .left) in
+    let sound = ne-eqb _ _ (c .before .if2 .left) in
     let good = sym (walk-broken _ _ _ u walked) ∙ sound in
     let first = l .loop .inv .3 ∙ ap (orEnd 208) (stays _ (firstBefore (shares card)) (λ k q. before-same _ k (unused-shares _ _ k q)) list j _ e h) in
     let on = reached-next _ j _ e in (
@@ -157,33 +181,33 @@ loop-again c =
 refused-at-requires-2 : tie.Need-refused-at-requires-2 Inv-loop μ-loop
 refused-at-requires-2 c κs = search needs
 
-returns-2 : tie.Need-returns-2 Inv-loop μ-loop
-returns-2 c =
-    let l = c .before .before .before in
-    let v = c .refused-at2 .ensures in
-    let a = l .before .before .before in
-    let card = a .args .card .now in
-    let list = a .pre .1 .0 in
-    let j = l .loop .j in
-    let z : j ≡ a .args .count = omega arith in
-    let first = l .loop .inv .3 ∙ ap (orEnd 208) (stays-to-end _ (firstBefore (shares card)) (λ k q. before-same _ k (unused-shares _ _ k q)) list j z) in
-    let sound = l .loop .inv .2 ∙ found-none _ (bad card) (unused-bad _ _) list j z in
-    (v ∙ sharing-refused card sound _ (first-some (shares card) _ _ first (c .before .if2 .taken)), λ e. absurd (false≢true (sym (ap accepted v) ∙ e)))
-
-done-requires : tie.Need-done-requires Inv-loop μ-loop
-done-requires c κs = search needs
-
 returns-3 : tie.Need-returns-3 Inv-loop μ-loop
 returns-3 c =
     let l = c .before .before .before in
-    let a = l .before .before .before in
+    let v = c .refused-at2 .ensures in
+    let a = l .before .before .before .before in
     let card = a .args .card .now in
     let list = a .pre .1 .0 in
     let j = l .loop .j in
     let z : j ≡ a .args .count = omega arith in
-    let first = l .loop .inv .3 ∙ ap (orEnd 208) (stays-to-end _ (firstBefore (shares card)) (λ k q. before-same _ k (unused-shares _ _ k q)) list j z) in
-    let sound = l .loop .inv .2 ∙ found-none _ (bad card) (unused-bad _ _) list j z in
-    (c .done .ensures ∙ neither-refused card sound (first-none (shares card) _ _ first (omega arith)), λ e. rw (stays-to-end _ (files card) (files-stay _ _) list j z) at (l .loop .inv .4 (omega arith)))
+    let first = first-of-all card list j z (l .loop .inv .3) in
+    let sound = none-bad card list j z (l .loop .inv .2) in
+    (v ∙ sharing-refused card sound _ (first-some (shares card) _ _ first (c .before .if3 .taken)), λ e. absurd (false≢true (sym (ap accepted v) ∙ e)))
+
+done-requires-2 : tie.Need-done-requires-2 Inv-loop μ-loop
+done-requires-2 c κs = search needs
+
+returns-4 : tie.Need-returns-4 Inv-loop μ-loop
+returns-4 c =
+    let l = c .before .before .before in
+    let a = l .before .before .before .before in
+    let card = a .args .card .now in
+    let list = a .pre .1 .0 in
+    let j = l .loop .j in
+    let z : j ≡ a .args .count = omega arith in
+    let first = first-of-all card list j z (l .loop .inv .3) in
+    let sound = none-bad card list j z (l .loop .inv .2) in
+    (c .done2 .ensures ∙ neither-refused card sound (first-none (shares card) _ _ first (omega arith)), λ e. all-marked card list j z (l .loop .inv .4 (omega arith)))
 
 pub walk-files-spec : {M : Type 1} → statement M
 walk-files-spec =
@@ -191,17 +215,19 @@ walk-files-spec =
     (tie.spec
     Inv-loop
     μ-loop
+    done-requires
+    returns
     read-table-requires
     loop-holds
     listed-at-requires
     walk-file-requires
     refused-at-requires
-    returns
+    returns-2
     remember-requires
     add-j
     loop-less
     loop-again
     refused-at-requires-2
-    returns-2
-    done-requires
-    returns-3)
+    returns-3
+    done-requires-2
+    returns-4)
