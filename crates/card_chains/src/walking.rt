@@ -91,12 +91,15 @@ fn follow(table: &[u16; 256], block: usize, left: usize) -> usize
     }
 }
 
-// The same over the card's table.
+// The same over the card's table, which a file's first block doesn't need.
 pub fn block_after(card: &[u8], block: usize, left: usize) -> usize
     requires { ⌜ (length (now card) ≡ 131072) × (block < 200) ⌝ }
     ensures { λ r. ⌜ IsAfter (tableOf (now (card .entry))) block left r ⌝ }
     ensures { λ r. ⌜ r < 200 ⌝ }
 {
+    if left == 0 {
+        return block;
+    }
     let table = read_table(card);
     follow(&table, block, left)
 }
