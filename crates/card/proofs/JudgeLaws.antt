@@ -3,38 +3,45 @@ use Prim.Native.Nat.{ℕ, _<_}
 use mathlib.Core.Path.{_≡_, refl, sym, ap, _∙_}
 use mathlib.Core.Bool.{true, false}
 use mathlib.Core.List.{List}
-use borrow.Author.Tests.{eqb-true, eq-eqb, not-false}
+use native.Mathlib.Omega.{arith}
+use borrow.Author.Tests.{eq-eqb, ne-eqb}
 use lib.ListN.{length}
 use Rattle.verdicts.specs.declared.Place.the-variants.{Whole, Entry}
 use Rattle.verdicts.specs.declared.Verdict.{Verdict}
-use Rattle.verdicts.specs.Rows.{accepted, unlessRefused}
+use Rattle.verdicts.specs.Rows.{refusedAt, accepted, unlessRefused}
 use Rattle.verdicts.proofs.RowLaws.{refused-first, not-refused, rows-joined}
 use Rattle.card_model.specs.Layout.{cardLength, rootOf, tableOf, directoryOf}
 use Rattle.card_model.specs.Entries.{wrongEntry, entryAt, entryRow, nameRow}
 use Rattle.card_model.specs.Files.{chainRow, sharingRow, gameRow}
 use Rattle.card_model.specs.Calls.{lengthRow, tableRows, directoryRows, verdictOf}
-use Rattle.card_model.proofs.SoundLaws.{unless-accepts, at-accepts, below-accepts}
+use Rattle.card_model.proofs.SoundLaws.{unless-accepts, below-accepts}
 use Rattle.card_games.specs.Rules.{GoodChains}
 use Rattle.card_chains.specs.Marks.{chainRows}
 
 passed : (r v : Verdict) → r ≡ v → r .number ≡ 0 → accepted v ≡ true
 passed r v e z = ap accepted (sym e) ∙ eq-eqb (r .number) 0 z
 
--- ---- t is what was found of rows 20 to 25
+-- ---- row 20
 
-module _ (card : List ℕ) (t : Verdict) (et : t ≡ unlessRefused (lengthRow card) (tableRows (rootOf card) (tableOf card))) where
-  pub table-refused : (t .number ≡ 0 → ⊥) → t ≡ verdictOf card
-  unfolding verdictOf
-  table-refused n = sym (sym (rows-joined (lengthRow card) (tableRows (rootOf card) (tableOf card)) _) ∙ refused-first _ _ t et n)
+pub not-20 : refusedAt 20 Whole .number ≡ 0 → ⊥
+not-20 e = omega (arith, e)
 
-  module _ (zt : t .number ≡ 0) where
-    pub long : length card ≡ 131072
-    unfolding lengthRow cardLength
-    long = eqb-true _ _ (not-false _ (at-accepts 20 Whole _ refl (unless-accepts (lengthRow card) _ (passed t _ et zt) .0)))
+module _ (card : List ℕ) where
+  pub length-refused : (length card ≡ 131072 → ⊥) → refusedAt 20 Whole ≡ verdictOf card
+  unfolding verdictOf lengthRow cardLength
+  length-refused n = rw (ne-eqb (length card) 131072 n)
 
-    pub past-table : directoryRows (tableOf card) (directoryOf card) ≡ verdictOf card
-    unfolding verdictOf
-    past-table = sym (sym (rows-joined (lengthRow card) (tableRows (rootOf card) (tableOf card)) _) ∙ not-refused _ _ t et zt)
+  -- t is what was found of rows 21 to 25
+  module _ (long : length card ≡ 131072) (t : Verdict) (et : t ≡ tableRows (rootOf card) (tableOf card)) where
+    past-length : verdictOf card ≡ unlessRefused (tableRows (rootOf card) (tableOf card)) (directoryRows (tableOf card) (directoryOf card))
+    unfolding verdictOf lengthRow cardLength
+    past-length = rw (eq-eqb (length card) 131072 long)
+
+    pub table-refused : (t .number ≡ 0 → ⊥) → t ≡ verdictOf card
+    table-refused n = sym (past-length ∙ refused-first _ _ t et n)
+
+    pub past-table : t .number ≡ 0 → directoryRows (tableOf card) (directoryOf card) ≡ verdictOf card
+    past-table z = sym (past-length ∙ not-refused _ _ t et z)
 
 -- ---- rows 26 to 30
 

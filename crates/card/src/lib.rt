@@ -33,6 +33,8 @@ ghost use Rattle.card_chains.specs.Marks.{noMarks, Marking};
 ghost use Rattle.card_names.specs.Slots.{AllNames};
 ghost use Rattle.card.specs.Lists.{Unfilled, Filled};
 
+const LENGTH: usize = 131072;
+
 // Refusals 26 to 30, and how many entries are used. These are listed; where no row refuses, the blocks of their files are marked, and
 // their names are in the table.
 fn judge_files(
@@ -86,6 +88,12 @@ fn judge(
     ensures { λ r. ⌜ r .verdict ≡ verdictOf (now (card .entry)) ⌝ }
     ensures { λ r. ⌜ (accepted (r .verdict) ≡ true → Filled (now (card .entry)) (now (used .exit)) (now (slots .exit)) (now (next .exit)) (r .count)) ⌝ }
 {
+    if card.len() != LENGTH {
+        return UsedEntries {
+            verdict: refused_at(20, Place::Whole),
+            count: 0,
+        };
+    }
     let table = table_verdict(card);
     if table.number != 0 {
         return UsedEntries {
@@ -110,6 +118,9 @@ fn not_checked(verdict: Verdict) -> Checked
 pub fn check(card: &[u8]) -> Checked
     ensures { λ r. ⌜ r ≡ checkOf (now (card .entry)) ⌝ }
 {
+    if card.len() != LENGTH {
+        return not_checked(refused_at(20, Place::Whole));
+    }
     let table = table_verdict(card);
     if table.number != 0 {
         return not_checked(table);

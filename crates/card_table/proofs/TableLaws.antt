@@ -5,7 +5,7 @@ use mathlib.Core.Bool.{Bool, false}
 use mathlib.Core.List.{List, map}
 use mathlib.Core.Option.{none, some}
 use native.Mathlib.Omega.{arith}
-use borrow.Author.Tests.{eq-eqb, ne-eqb, lt-ltb}
+use borrow.Author.Tests.{ne-eqb, lt-ltb}
 use native.Mathlib.Decide.{ℕ-discrete}
 use lib.ListN.{length, getD, take, drop, set, length-set, length-map}
 use lib.Seq.{getD-take, getD-drop, getD-set-same, getD-set-other, ext-getD}
@@ -20,10 +20,10 @@ use Rattle.verdicts.specs.declared.Verdict.{Verdict}
 use Rattle.verdicts.specs.declared.Place.the-variants.{Block}
 use Rattle.verdicts.specs.Rows.{done, refusedAt, unlessRefused}
 use Rattle.verdicts.proofs.RowLaws.{refused-first, not-refused, rows-joined}
-use Rattle.card_model.specs.Layout.{cardLength, fatPlace, tableOf}
+use Rattle.card_model.specs.Layout.{fatPlace, tableOf}
 use Rattle.card_model.specs.declared.Link.the-variants.{Next}
 use Rattle.card_model.specs.Table.{fatEntry, linkOf, magicRow, fieldsRow, wrongSystem, wrongHidden, wrongUser, systemRow, hiddenRow, userRow}
-use Rattle.card_model.specs.Calls.{lengthRow, tableRows}
+use Rattle.card_model.specs.Calls.{tableRows}
 use Rattle.card_table.specs.declared.Region.{Region}
 use Rattle.card_table.specs.declared.Region.the-variants.{System, Hidden, User}
 use Rattle.card_table.specs.Regions.{Ready, entryRows}
@@ -101,10 +101,6 @@ module _ (table : List ℕ) where
       pub none-refused : {u : Bool} → u ≡ anyOf (wrongUser table) (numbersFrom 0 200) → u ≡ false → done ≡ entryRows table
       unfolding entryRows systemRow hiddenRow userRow
       none-refused {u} e no-u = rw (system, hidden, none-wrong (wrongUser table) 0 200 u e no-u)
-
-pub after-length : (card : List ℕ) (later : Verdict) → length card ≡ 131072 → unlessRefused (lengthRow card) later ≡ later
-unfolding lengthRow cardLength
-after-length card later e = rw (eq-eqb (length card) 131072 e)
 
 -- past the root: r is what was found of rows 21 and 22
 module _ (root table : List ℕ) (r : Verdict) (e : r ≡ unlessRefused (magicRow root) (fieldsRow root)) where

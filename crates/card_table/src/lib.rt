@@ -1,4 +1,4 @@
-// The root block and the table of a card: refusals 20 to 25, the table's entries and their classes.
+// The root block and the table of a card: refusals 21 to 25, the table's entries and their classes.
 use card_model::Link;
 use verdicts::Place;
 use verdicts::Verdict;
@@ -16,7 +16,7 @@ ghost use Rattle.words.specs.Search.{lowest};
 ghost use Rattle.verdicts.specs.Rows.{unlessRefused};
 ghost use Rattle.card_model.specs.Layout.{rootOf, tableOf};
 ghost use Rattle.card_model.specs.Table.{magicRow, fieldsRow, rightFields, fatEntry, linkOf, systemEntry, freeOrDamaged, isBad};
-ghost use Rattle.card_model.specs.Calls.{lengthRow, tableRows};
+ghost use Rattle.card_model.specs.Calls.{tableRows};
 ghost use Rattle.card_table.specs.Regions.{wrongIn, Ready, entryRows};
 
 const LENGTH: usize = 131072;
@@ -207,13 +207,11 @@ fn root_verdict(root: &[u8]) -> Verdict
     done()
 }
 
-// Refusals 20 to 25.
+// Refusals 21 to 25.
 pub fn table_verdict(card: &[u8]) -> Verdict
-    ensures { λ r. ⌜ r ≡ unlessRefused (lengthRow (now (card .entry))) (tableRows (rootOf (now (card .entry))) (tableOf (now (card .entry)))) ⌝ }
+    requires { ⌜ length (now card) ≡ 131072 ⌝ }
+    ensures { λ r. ⌜ r ≡ tableRows (rootOf (now (card .entry))) (tableOf (now (card .entry))) ⌝ }
 {
-    if card.len() != LENGTH {
-        return refused_at(20, Place::Whole);
-    }
     let root = root_verdict(&card[ROOT..LENGTH]);
     if root.number != 0 {
         return root;
