@@ -4,7 +4,7 @@
 use crate::links::entry_in;
 use crate::links::is_above;
 use card_model::Link;
-use card_table::classify;
+use card_table::class_of;
 use card_table::read_table;
 ghost use mathlib.Core.Path.{_≡_};
 ghost use mathlib.Core.Bool.{cond};
@@ -57,7 +57,7 @@ pub(crate) fn walk(table: &[u16; 256], marks: &mut [u8; 200], block: usize, left
     if is_above(e, block) {
         return walk(table, marks, block + 1, left - 1);
     }
-    match classify(e) {
+    match class_of(e) {
         Link::Last => ended(left == 1, APART),
         Link::Next(n) => walk(table, marks, n, left - 1),
         Link::Free => BROKEN,
@@ -82,7 +82,7 @@ fn follow(table: &[u16; 256], block: usize, left: usize) -> usize
     if is_above(e, block) {
         return follow(table, block + 1, left - 1);
     }
-    match classify(e) {
+    match class_of(e) {
         Link::Next(n) => follow(table, n, left - 1),
         Link::Last => block,
         Link::Free => block,

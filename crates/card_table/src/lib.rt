@@ -69,6 +69,16 @@ pub fn classify(e: usize) -> Link
     }
 }
 
+// The same, with the class of most entries of a card with files first: the match tests its single numbers before its range.
+pub fn class_of(e: usize) -> Link
+    ensures { λ r. ⌜ r ≡ linkOf e ⌝ }
+{
+    if e < 200 {
+        return Link::Next(e);
+    }
+    classify(e)
+}
+
 pub fn free_or_damaged(link: Link) -> bool
     ensures { λ r. ⌜ r ≡ freeOrDamaged link ⌝ }
 {
@@ -93,16 +103,6 @@ fn is_bad(link: Link) -> bool
     }
 }
 
-// What row 25 asks of an entry. The match tests its single numbers first, and most entries of a card with files are below 200.
-fn is_wrong_user(e: usize) -> bool
-    ensures { λ r. ⌜ r ≡ isBad (linkOf e) ⌝ }
-{
-    if e < 200 {
-        return false;
-    }
-    is_bad(classify(e))
-}
-
 // What the table has to say of a system block.
 fn system_entry(b: usize) -> usize
     requires { ⌜ 1 ≤ b ⌝ }
@@ -123,7 +123,7 @@ fn is_wrong(card: &[u8], region: Region, b: usize) -> bool
     match region {
         Region::System => e != system_entry(b),
         Region::Hidden => !free_or_damaged(classify(e)),
-        Region::User => is_wrong_user(e),
+        Region::User => is_bad(class_of(e)),
     }
 }
 

@@ -30,8 +30,11 @@ free-or-damaged-requires c κs = search needs
 enum-told-3 : tie.Need-enum-told-3
 enum-told-3 c = search needs
 
-is-wrong-user-requires : tie.Need-is-wrong-user-requires
-is-wrong-user-requires c κs = search needs
+class-of-requires : tie.Need-class-of-requires
+class-of-requires c κs = search needs
+
+is-bad-requires : tie.Need-is-bad-requires
+is-bad-requires c κs = search needs
 
 returns : tie.Need-returns
 unfolding wrongSystem
@@ -48,8 +51,8 @@ returns-2 c =
 returns-3 : tie.Need-returns-3
 unfolding wrongUser linkAt
 returns-3 c =
-    let t = c .before in
-    rw (t .enum-told3 .given .1, c .is-wrong-user .ensures, t .before .before .fat-entry .ensures .0)
+    let t = c .before .before in
+    rw (t .enum-told3 .given .1, c .is-bad .ensures, c .before .class-of .ensures, t .before .before .fat-entry .ensures .0)
 
 pub is-wrong-spec : {M : Type 1} → statement M
 is-wrong-spec =
@@ -62,7 +65,8 @@ is-wrong-spec =
     classify-requires
     free-or-damaged-requires
     enum-told-3
-    is-wrong-user-requires
+    class-of-requires
+    is-bad-requires
     returns
     returns-2
     returns-3)

@@ -12,7 +12,7 @@ use Rattle.card_chains.proofs.walking.follow.Kinds as follow-kinds
 use Rattle.card_chains.proofs.walking.+follow.Lts-follow as follow-lts
 use Rattle.card_chains.proofs.links.entry_in.Reads as entry-in-reads
 use Rattle.card_chains.proofs.links.is_above.Reads as is-above-reads
-use Rattle.card_table.proofs.classify.Reads as classify-reads
+use Rattle.card_table.proofs.class_of.Reads as class-of-reads
 use Rattle.card_chains.proofs.walking.+follow.{statement}
 use Rattle.card_chains.proofs.walking.+follow.Tie.{close}
 
@@ -33,8 +33,8 @@ calls t = (
   follow.Post,
   is-above-reads.Asked,
   is-above-reads.Learnt,
-  classify-reads.Asked,
-  classify-reads.Learnt,
+  class-of-reads.Asked,
+  class-of-reads.Learnt,
 )
 
 module _ (t : ℕ) where
@@ -87,8 +87,8 @@ module _ (t : ℕ) where
       let told = names-above _ _ (l .entry-in .ensures .0) (sym (g .before .is-above .ensures) ∙ g .if3 .taken) in
       (after-next _ _ _ (l .before .if1 .left) refl _ _ told (c .follow2 .ensures .0), search needs)
 
-  classify-requires : follow-lts.Need-classify-requires (calls t) (follow-at t) follow.Post
-  classify-requires c κs = search needs
+  class-of-requires : follow-lts.Need-class-of-requires (calls t) (follow-at t) follow.Post
+  class-of-requires c κs = search needs
 
   enum-known-n : follow-lts.Need-enum-known-n (calls t) (follow-at t) follow.Post
   enum-known-n c = search needs
@@ -100,7 +100,7 @@ module _ (t : ℕ) where
   follow-requires-3 c κs =
       let n = c .before in
       let k = n .before .before in
-      let link = link-read _ _ (k .before .before .before .before .entry-in .ensures .0) (k .classify .ensures) in
+      let link = link-read _ _ (k .before .before .before .before .entry-in .ensures .0) (k .class-of .ensures) in
       (omega arith, step-below _ _ _ (sym link ∙ n .n .given .1))
 
   enum-told : follow-lts.Need-enum-told (calls t) (follow-at t) follow.Post
@@ -120,35 +120,35 @@ module _ (t : ℕ) where
       let n = c .before .before in
       let k = n .before .before in
       let l = k .before .before .before .before in
-      let link = link-read _ _ (l .entry-in .ensures .0) (k .classify .ensures) in
+      let link = link-read _ _ (l .entry-in .ensures .0) (k .class-of .ensures) in
       (after-next _ _ _ (l .before .if1 .left) link _ _ (n .n .given .1) (c .follow3 .ensures .0), search needs)
 
   returns-5 : follow-lts.Need-returns-5 (calls t) (follow-at t) follow.Post
   returns-5 c =
       let k = c .before .before in
       let l = k .before .before .before .before in
-      let link = link-read _ _ (l .entry-in .ensures .0) (k .classify .ensures) in
+      let link = link-read _ _ (l .entry-in .ensures .0) (k .class-of .ensures) in
       (after-stop _ _ _ (l .before .if1 .left) link _ (c .enum-told .given .1) tt, search needs)
 
   returns-6 : follow-lts.Need-returns-6 (calls t) (follow-at t) follow.Post
   returns-6 c =
       let k = c .before .before in
       let l = k .before .before .before .before in
-      let link = link-read _ _ (l .entry-in .ensures .0) (k .classify .ensures) in
+      let link = link-read _ _ (l .entry-in .ensures .0) (k .class-of .ensures) in
       (after-stop _ _ _ (l .before .if1 .left) link _ (c .enum-told2 .given .1) tt, search needs)
 
   returns-7 : follow-lts.Need-returns-7 (calls t) (follow-at t) follow.Post
   returns-7 c =
       let k = c .before .before in
       let l = k .before .before .before .before in
-      let link = link-read _ _ (l .entry-in .ensures .0) (k .classify .ensures) in
+      let link = link-read _ _ (l .entry-in .ensures .0) (k .class-of .ensures) in
       (after-stop _ _ _ (l .before .if1 .left) link _ (c .enum-told3 .given .1) tt, search needs)
 
   returns-8 : follow-lts.Need-returns-8 (calls t) (follow-at t) follow.Post
   returns-8 c =
       let k = c .before .before in
       let l = k .before .before .before .before in
-      let link = link-read _ _ (l .entry-in .ensures .0) (k .classify .ensures) in
+      let link = link-read _ _ (l .entry-in .ensures .0) (k .class-of .ensures) in
       (after-stop _ _ _ (l .before .if1 .left) link _ (c .enum-told4 .given .1) tt, search needs)
 
 pub +follow-spec : {M : Type 1} → statement M
@@ -165,7 +165,7 @@ pub +follow-spec : {M : Type 1} → statement M
     (sub-follow-3 t)
     (follow-requires-2 t)
     (returns-3 t)
-    (classify-requires t)
+    (class-of-requires t)
     (enum-known-n t)
     (sub-follow-4 t)
     (follow-requires-3 t)

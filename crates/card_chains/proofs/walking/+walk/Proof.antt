@@ -14,7 +14,7 @@ use Rattle.card_chains.proofs.walking.+walk.Lts-walk as walk-lts
 use Rattle.card_chains.proofs.walking.ended.Reads as ended-reads
 use Rattle.card_chains.proofs.links.entry_in.Reads as entry-in-reads
 use Rattle.card_chains.proofs.links.is_above.Reads as is-above-reads
-use Rattle.card_table.proofs.classify.Reads as classify-reads
+use Rattle.card_table.proofs.class_of.Reads as class-of-reads
 use Rattle.card_chains.proofs.walking.+walk.{statement}
 use Rattle.card_chains.proofs.walking.+walk.Tie.{close}
 
@@ -37,8 +37,8 @@ calls t = (
   walk.Post,
   is-above-reads.Asked,
   is-above-reads.Learnt,
-  classify-reads.Asked,
-  classify-reads.Learnt,
+  class-of-reads.Asked,
+  class-of-reads.Learnt,
 )
 
 module _ (t : ℕ) where
@@ -116,8 +116,8 @@ module _ (t : ℕ) where
       let told = names-above _ _ (l .entry-in .ensures .0) (sym (g .before .is-above .ensures) ∙ g .if4 .taken) in
       walked-next _ _ _ _ (s .pre .1 .1) (d .if1 .left) (s .pre .1 .0 .0) (l .before .if2 .left) _ told (c .walk2 .ensures)
 
-  classify-requires : walk-lts.Need-classify-requires (calls t) (walk-at t) walk.Post
-  classify-requires c κs = search needs
+  class-of-requires : walk-lts.Need-class-of-requires (calls t) (walk-at t) walk.Post
+  class-of-requires c κs = search needs
 
   enum-told : walk-lts.Need-enum-told (calls t) (walk-at t) walk.Post
   enum-told c = search needs
@@ -138,7 +138,7 @@ module _ (t : ℕ) where
       let l = k .before .before .before .before in
       let d = l .before .before .before in
       let s = d .before in
-      let told = sym (link-read _ _ (l .entry-in .ensures .0) (k .classify .ensures)) ∙ n .n .given .1 in
+      let told = sym (link-read _ _ (l .entry-in .ensures .0) (k .class-of .ensures)) ∙ n .n .given .1 in
       (omega arith, next-asked _ _ _ _ (s .pre .1 .1) (d .if1 .left) (s .pre .1 .0 .0) (l .before .if2 .left) _ told (s .pre .1 .0 .1))
 
   enum-told-2 : walk-lts.Need-enum-told-2 (calls t) (walk-at t) walk.Post
@@ -157,7 +157,7 @@ module _ (t : ℕ) where
       let l = k .before .before .before .before in
       let d = l .before .before .before in
       let s = d .before in
-      let step = chain-step _ _ _ (d .if1 .left) (link-read _ _ (l .entry-in .ensures .0) (k .classify .ensures)) (c .before .enum-told .given .1) in
+      let step = chain-step _ _ _ (d .if1 .left) (link-read _ _ (l .entry-in .ensures .0) (k .class-of .ensures)) (c .before .enum-told .given .1) in
       walked-last _ _ _ _ (s .pre .1 .1) (d .if1 .left) (s .pre .1 .0 .0) (l .before .if2 .left) step (c .ended2 .ensures)
 
   returns-6 : walk-lts.Need-returns-6 (calls t) (walk-at t) walk.Post
@@ -167,7 +167,7 @@ module _ (t : ℕ) where
       let l = k .before .before .before .before in
       let d = l .before .before .before in
       let s = d .before in
-      let told = sym (link-read _ _ (l .entry-in .ensures .0) (k .classify .ensures)) ∙ n .n .given .1 in
+      let told = sym (link-read _ _ (l .entry-in .ensures .0) (k .class-of .ensures)) ∙ n .n .given .1 in
       walked-next _ _ _ _ (s .pre .1 .1) (d .if1 .left) (s .pre .1 .0 .0) (l .before .if2 .left) _ told (c .walk3 .ensures)
 
   returns-7 : walk-lts.Need-returns-7 (calls t) (walk-at t) walk.Post
@@ -175,7 +175,7 @@ module _ (t : ℕ) where
   returns-7 c =
       let k = c .before .before in
       let l = k .before .before .before .before in
-      let link = link-read _ _ (l .entry-in .ensures .0) (k .classify .ensures) in
+      let link = link-read _ _ (l .entry-in .ensures .0) (k .class-of .ensures) in
       walked-broken _ _ _ (chain-step _ _ _ (l .before .before .before .if1 .left) link (c .enum-told2 .given .1))
 
   returns-8 : walk-lts.Need-returns-8 (calls t) (walk-at t) walk.Post
@@ -183,7 +183,7 @@ module _ (t : ℕ) where
   returns-8 c =
       let k = c .before .before in
       let l = k .before .before .before .before in
-      let link = link-read _ _ (l .entry-in .ensures .0) (k .classify .ensures) in
+      let link = link-read _ _ (l .entry-in .ensures .0) (k .class-of .ensures) in
       walked-broken _ _ _ (chain-step _ _ _ (l .before .before .before .if1 .left) link (c .enum-told3 .given .1))
 
   returns-9 : walk-lts.Need-returns-9 (calls t) (walk-at t) walk.Post
@@ -191,7 +191,7 @@ module _ (t : ℕ) where
   returns-9 c =
       let k = c .before .before in
       let l = k .before .before .before .before in
-      let link = link-read _ _ (l .entry-in .ensures .0) (k .classify .ensures) in
+      let link = link-read _ _ (l .entry-in .ensures .0) (k .class-of .ensures) in
       walked-broken _ _ _ (chain-step _ _ _ (l .before .before .before .if1 .left) link (c .enum-told4 .given .1))
 
 pub +walk-spec : {M : Type 1} → statement M
@@ -213,7 +213,7 @@ pub +walk-spec : {M : Type 1} → statement M
     (sub-walk-3 t)
     (walk-requires-2 t)
     (returns-4 t)
-    (classify-requires t)
+    (class-of-requires t)
     (enum-told t)
     (ended-requires-2 t)
     (enum-known-n t)
