@@ -38,20 +38,20 @@ fn game_before(card: &[u8], i: usize) -> bool
     false
 }
 
-// Whether each block of the chain from block 0 is followed by the one above it.
+// Whether each block of the chain from block 0 is followed by the one above it. The loop has no way out, so that it is compiled to
+// steps of several blocks.
 fn rises(card: &[u8], blocks: usize) -> bool
     requires { ⌜ (length (now card) ≡ 131072) × (blocks ≤ 200) ⌝ }
     requires { ⌜ isSome (chain (tableOf (now card)) blocks 0) ≡ true ⌝ }
     ensures { λ r. ⌜ r ≡ rising (orEmpty (chain (tableOf (now (card .entry))) blocks 0)) ⌝ }
 {
+    let mut good = true;
     let mut b = 0;
     while b + 1 < blocks {
-        if fat_entry(card, b) != b + 1 {
-            return false;
-        }
+        good = good & (fat_entry(card, b) == b + 1);
         b += 1;
     }
-    true
+    good
 }
 
 fn breaks_game_rule(card: &[u8], i: usize) -> bool

@@ -1,9 +1,11 @@
--- `rises` meets its contract: whether the chain rises from here on is whether it rises at all. Assumes nothing.
-use Prim.Native.Nat.{_+_, _-_, _≤_}
-use mathlib.Core.Path.{_≡_, sym, _∙_}
-use mathlib.Core.Bool.{true}
+-- `rises` meets its contract: while all blocks rose, whether the chain rises from here on is whether it rises at all. Assumes nothing.
+use Prim.Native.Nat.{ℕ, _+_, _-_, _≤_, _<_}
+use mathlib.Core.Path.{_≡_, refl, sym, _∙_}
+use mathlib.Core.Bool.{Bool, true, false, _&&_, false≢true, true≢false}
+use mathlib.Core.List.{List}
 use native.Mathlib.Omega.{arith}
-use borrow.Author.Tests.{ne-eqb, eq-eqb}
+use borrow.Author.Tests.{eqb-true}
+use lib.Dec.{eqb}
 use Rattle.words.specs.Lists.{isSome}
 use Rattle.card_model.specs.Layout.{tableOf}
 use Rattle.card_model.specs.Table.{fatEntry}
@@ -13,20 +15,44 @@ use borrow.Author.Needs.{needs}
 use Rattle.card_games.proofs.rises.Statement.{statement}
 use Rattle.card_games.proofs.rises.Tie as tie
 
+module _ (table : List ℕ) (blocks : ℕ) where
+  abbrev risesFrom : ℕ → Bool
+  risesFrom b = rising (orEmpty (chain table (blocks - b) b))
+
+  -- at block b: where all before it rose, the chain goes on there and decides; else it is decided
+  record Risen (whole : Bool) (b : ℕ) (good : Bool) : Type 0 where
+    on : good ≡ true → (isSome (chain table (blocks - b) b) ≡ true) × (whole ≡ risesFrom b)
+    off : good ≡ false → whole ≡ false
+
+  risen-next : (whole : Bool) (b : ℕ) (good : Bool) → b + 1 < blocks → Risen whole b good → Risen whole (b + 1) (good && eqb (fatEntry table b) (b + 1))
+  risen-next whole b false h r = record { on = λ e. absurd (false≢true e); off = λ _. r .off refl }
+  risen-next whole b true h r = go (eqb (fatEntry table b) (b + 1)) refl
+    where
+      go : (t : Bool) → eqb (fatEntry table b) (b + 1) ≡ t → Risen whole (b + 1) t
+      go true q =
+          let g = goes-on table (blocks - b) b (omega arith) (r .on refl .0) in
+          let e : fatEntry table b ≡ b + 1 = eqb-true _ _ q in
+          let k : blocks - b - 1 ≡ blocks - (b + 1) = omega arith in
+          record { on = λ _. (rw (← k, ← e) (g .there), r .on refl .1 ∙ g .rises ∙ rw (q, k, e)); off = λ d. absurd (true≢false d) }
+      go false q =
+          let g = goes-on table (blocks - b) b (omega arith) (r .on refl .0) in
+          record { on = λ d. absurd (false≢true d); off = λ _. r .on refl .1 ∙ g .rises ∙ rw q }
+
+  risen-all : (whole : Bool) (b : ℕ) (good : Bool) → blocks ≤ b + 1 → Risen whole b good → good ≡ whole
+  risen-all whole b false h r = sym (r .off refl)
+  risen-all whole b true h r = sym (r .on refl .1 ∙ ends table (blocks - b) b (omega arith) (r .on refl .0))
+
 abbrev Inv-loop : tie.InvT-loop
-Inv-loop card blocks b₀ b =
-    (b ≤ blocks)
-    × (isSome (chain (tableOf card) (blocks - b) b) ≡ true)
-    × (rising (orEmpty (chain (tableOf card) blocks 0)) ≡ rising (orEmpty (chain (tableOf card) (blocks - b) b)))
+Inv-loop card blocks good₀ b₀ good b = (b ≤ blocks) × Risen (tableOf card) blocks (rising (orEmpty (chain (tableOf card) blocks 0))) b good
 
 abbrev μ-loop : tie.MeasureT-loop
-μ-loop card blocks b₀ b = blocks - b
+μ-loop card blocks good₀ b₀ good b = blocks - b
 
 loop-holds : tie.Need-loop-holds Inv-loop μ-loop
 loop-holds c =
     let a = c .before in
     let e : a .args .blocks - 0 ≡ a .args .blocks = omega arith in
-    (omega arith, rw e (a .pre .1), rw e)
+    (omega arith, record { on = λ _. (rw e (a .pre .1), rw e); off = λ d. absurd (true≢false d) })
 
 add-loop : tie.Need-add-loop Inv-loop μ-loop
 add-loop c = search needs
@@ -34,17 +60,8 @@ add-loop c = search needs
 fat-entry-requires : tie.Need-fat-entry-requires Inv-loop μ-loop
 fat-entry-requires c κs = search needs
 
-add-if1 : tie.Need-add-if1 Inv-loop μ-loop
-add-if1 c = search needs
-
-returns : tie.Need-returns Inv-loop μ-loop
-returns c =
-    let l = c .before .before .before in
-    let a = l .before .before .args in
-    let table = tableOf (a .card .now) in
-    let b = l .loop .b in
-    let g = goes-on table (a .blocks - b) b (omega arith) (l .loop .inv .1) in
-    sym (l .loop .inv .2 ∙ g .rises ∙ rw (ne-eqb (fatEntry table b) (b + 1) (λ d. c .if1 .taken (c .before .fat-entry .ensures .0 ∙ d))))
+add-good : tie.Need-add-good Inv-loop μ-loop
+add-good c = search needs
 
 add-b : tie.Need-add-b Inv-loop μ-loop
 add-b c = search needs
@@ -54,20 +71,15 @@ loop-less c = search needs
 
 loop-again : tie.Need-loop-again Inv-loop μ-loop
 loop-again c =
-    let l = c .before .before .before in
+    let l = c .before .before in
     let a = l .before .before .args in
-    let table = tableOf (a .card .now) in
-    let b = l .loop .b in
-    let g = goes-on table (a .blocks - b) b (omega arith) (l .loop .inv .1) in
-    let e : fatEntry table b ≡ b + 1 = sym (c .before .fat-entry .ensures .0) ∙ c .if1 .left in
-    let k : a .blocks - b - 1 ≡ a .blocks - (b + 1) = omega arith in
-    (omega arith, rw (← k, ← e) (g .there), l .loop .inv .2 ∙ g .rises ∙ rw (eq-eqb (fatEntry table b) (b + 1) e, k, e))
+    (omega arith, rw (c .fat-entry .ensures .0) (risen-next (tableOf (a .card .now)) (a .blocks) _ (l .loop .b) (l .loop .good) (omega arith) (l .loop .inv .1)))
 
-returns-2 : tie.Need-returns-2 Inv-loop μ-loop
-returns-2 c =
+returns : tie.Need-returns Inv-loop μ-loop
+returns c =
     let l = c .before in
     let a = l .before .before .args in
-    sym (l .loop .inv .2 ∙ ends (tableOf (a .card .now)) (a .blocks - l .loop .b) (l .loop .b) (omega arith) (l .loop .inv .1))
+    risen-all (tableOf (a .card .now)) (a .blocks) _ (l .loop .b) (l .loop .good) (omega arith) (l .loop .inv .1)
 
 pub rises-spec : {M : Type 1} → statement M
 rises-spec =
@@ -78,9 +90,8 @@ rises-spec =
     loop-holds
     add-loop
     fat-entry-requires
-    add-if1
-    returns
+    add-good
     add-b
     loop-less
     loop-again
-    returns-2)
+    returns)
