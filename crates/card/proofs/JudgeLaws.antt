@@ -4,7 +4,7 @@ use mathlib.Core.Path.{_≡_, refl, sym, ap, _∙_}
 use mathlib.Core.Bool.{true, false}
 use mathlib.Core.List.{List}
 use native.Mathlib.Omega.{arith}
-use borrow.Author.Tests.{eq-eqb, ne-eqb}
+use borrow.Author.Tests.{eqb-true, eq-eqb, ne-eqb, not-false}
 use lib.ListN.{length}
 use Rattle.verdicts.specs.declared.Place.the-variants.{Whole, Entry}
 use Rattle.verdicts.specs.declared.Verdict.{Verdict}
@@ -14,34 +14,45 @@ use Rattle.card_model.specs.Layout.{cardLength, rootOf, tableOf, directoryOf}
 use Rattle.card_model.specs.Entries.{wrongEntry, entryAt, entryRow, nameRow}
 use Rattle.card_model.specs.Files.{chainRow, sharingRow, gameRow}
 use Rattle.card_model.specs.Calls.{lengthRow, tableRows, directoryRows, verdictOf}
-use Rattle.card_model.proofs.SoundLaws.{unless-accepts, below-accepts}
+use Rattle.card_model.proofs.SoundLaws.{unless-accepts, at-accepts, below-accepts}
 use Rattle.card_games.specs.Rules.{GoodChains}
 use Rattle.card_chains.specs.Marks.{chainRows}
+use Rattle.card.specs.Parts.{fileRows, nameRows}
 
 passed : (r v : Verdict) → r ≡ v → r .number ≡ 0 → accepted v ≡ true
 passed r v e z = ap accepted (sym e) ∙ eq-eqb (r .number) 0 z
 
--- ---- row 20
+-- ---- rows 20 to 25
 
 pub not-20 : refusedAt 20 Whole .number ≡ 0 → ⊥
 not-20 e = omega (arith, e)
 
 module _ (card : List ℕ) where
-  pub length-refused : (length card ≡ 131072 → ⊥) → refusedAt 20 Whole ≡ verdictOf card
-  unfolding verdictOf lengthRow cardLength
-  length-refused n = rw (ne-eqb (length card) 131072 n)
+  abbrev firstRows : Verdict
+  firstRows = unlessRefused (lengthRow card) (tableRows (rootOf card) (tableOf card))
 
-  -- t is what was found of rows 21 to 25
-  module _ (long : length card ≡ 131072) (t : Verdict) (et : t ≡ tableRows (rootOf card) (tableOf card)) where
-    past-length : verdictOf card ≡ unlessRefused (tableRows (rootOf card) (tableOf card)) (directoryRows (tableOf card) (directoryOf card))
-    unfolding verdictOf lengthRow cardLength
-    past-length = rw (eq-eqb (length card) 131072 long)
+  pub wrong-length : (length card ≡ 131072 → ⊥) → refusedAt 20 Whole ≡ firstRows
+  unfolding lengthRow cardLength
+  wrong-length n = rw (ne-eqb (length card) 131072 n)
 
+  pub right-length : length card ≡ 131072 → tableRows (rootOf card) (tableOf card) ≡ firstRows
+  unfolding lengthRow cardLength
+  right-length e = rw (eq-eqb (length card) 131072 e)
+
+  -- t is what was found of them
+  module _ (t : Verdict) (et : t ≡ firstRows) where
     pub table-refused : (t .number ≡ 0 → ⊥) → t ≡ verdictOf card
-    table-refused n = sym (past-length ∙ refused-first _ _ t et n)
+    unfolding verdictOf
+    table-refused n = sym (sym (rows-joined (lengthRow card) (tableRows (rootOf card) (tableOf card)) _) ∙ refused-first _ _ t et n)
 
-    pub past-table : t .number ≡ 0 → directoryRows (tableOf card) (directoryOf card) ≡ verdictOf card
-    past-table z = sym (past-length ∙ not-refused _ _ t et z)
+    module _ (zt : t .number ≡ 0) where
+      pub long : length card ≡ 131072
+      unfolding lengthRow cardLength
+      long = eqb-true _ _ (not-false _ (at-accepts 20 Whole _ refl (unless-accepts (lengthRow card) _ (passed t _ et zt) .0)))
+
+      pub past-table : directoryRows (tableOf card) (directoryOf card) ≡ verdictOf card
+      unfolding verdictOf
+      past-table = sym (sym (rows-joined (lengthRow card) (tableRows (rootOf card) (tableOf card)) _) ∙ not-refused _ _ t et zt)
 
 -- ---- rows 26 to 30
 
@@ -49,10 +60,15 @@ module _ (table : List ℕ) (directory : List (List ℕ)) where
   abbrev rows : Verdict
   rows = directoryRows table directory
 
+  parts : rows ≡ unlessRefused (fileRows table directory) (nameRows table directory)
+  unfolding directoryRows
+  parts =
+      ap (unlessRefused (entryRow directory)) (sym (rows-joined (chainRow table directory) (sharingRow table directory) _))
+      ∙ sym (rows-joined (entryRow directory) (chainRows table directory) _)
+
   -- f is what was found of row 26
   module _ (f : Verdict) (ef : f ≡ entryRow directory) where
-    pub fields-refused : (f .number ≡ 0 → ⊥) → f ≡ rows
-    unfolding directoryRows
+    pub fields-refused : (f .number ≡ 0 → ⊥) → f ≡ fileRows table directory
     fields-refused n = sym (refused-first (entryRow directory) _ f ef n)
 
     module _ (zf : f .number ≡ 0) where
@@ -60,31 +76,28 @@ module _ (table : List ℕ) (directory : List (List ℕ)) where
       unfolding entryRow
       fields-right = below-accepts 26 Entry _ 208 refl (passed f _ ef zf)
 
-      past-fields : rows ≡ unlessRefused (chainRows table directory) (unlessRefused (nameRow directory) (gameRow table directory))
-      unfolding directoryRows
-      past-fields = not-refused (entryRow directory) _ f ef zf ∙ sym (rows-joined (chainRow table directory) (sharingRow table directory) _)
+      pub past-fields : chainRows table directory ≡ fileRows table directory
+      past-fields = sym (not-refused (entryRow directory) _ f ef zf)
 
-      -- c is what was found of rows 27 and 28
-      module _ (c : Verdict) (ec : c ≡ chainRows table directory) where
-        pub chains-refused : (c .number ≡ 0 → ⊥) → c ≡ rows
-        chains-refused n = sym (past-fields ∙ refused-first _ _ c ec n)
+  -- c is what was found of rows 26 to 28
+  module _ (c : Verdict) (ec : c ≡ fileRows table directory) where
+    pub chains-refused : (c .number ≡ 0 → ⊥) → c ≡ rows
+    chains-refused n = sym (parts ∙ refused-first _ _ c ec n)
 
-        module _ (zc : c .number ≡ 0) where
-          pub good-chains : GoodChains table directory
-          unfolding chainRow
-          good-chains = record {
-            fields = fields-right;
-            chains = below-accepts 27 Entry _ 208 refl (unless-accepts (chainRow table directory) _ (passed c _ ec zc) .0);
-          }
+    module _ (zc : c .number ≡ 0) where
+      pub past-chains : nameRows table directory ≡ rows
+      past-chains = sym (parts ∙ not-refused _ _ c ec zc)
 
-          past-chains : rows ≡ unlessRefused (nameRow directory) (gameRow table directory)
-          past-chains = past-fields ∙ not-refused _ _ c ec zc
+      pub good-chains : GoodChains table directory
+      unfolding entryRow chainRow
+      good-chains =
+          let a = unless-accepts (entryRow directory) _ (passed c _ ec zc) in
+          record { fields = below-accepts 26 Entry _ 208 refl (a .0); chains = below-accepts 27 Entry _ 208 refl (unless-accepts (chainRow table directory) _ (a .1) .0) }
 
-          -- m is what was found of row 29
-          module _ (m : Verdict) (em : m ≡ nameRow directory) where
-            pub names-refused : (m .number ≡ 0 → ⊥) → m ≡ rows
-            names-refused n = sym (past-chains ∙ refused-first _ _ m em n)
+  -- m is what was found of row 29
+  module _ (m : Verdict) (em : m ≡ nameRow directory) where
+    pub names-refused : (m .number ≡ 0 → ⊥) → m ≡ nameRows table directory
+    names-refused n = sym (refused-first _ _ m em n)
 
-            -- g is what was found of row 30
-            pub names-passed : m .number ≡ 0 → (g : Verdict) → g ≡ gameRow table directory → g ≡ rows
-            names-passed zm g eg = eg ∙ sym (past-chains ∙ not-refused _ _ m em zm)
+    pub past-names : m .number ≡ 0 → gameRow table directory ≡ nameRows table directory
+    past-names z = sym (not-refused _ _ m em z)

@@ -15,6 +15,7 @@ use card_model::Checked;
 use card_model::Listing;
 use card_names::find_named;
 use card_names::name_row;
+use card_names::name_row_alone;
 use card_table::table_verdict;
 use verdicts::Place;
 use verdicts::Verdict;
@@ -22,49 +23,96 @@ use verdicts::done;
 use verdicts::refused_at;
 ghost use mathlib.Core.Path.{_≡_};
 ghost use mathlib.Core.Bool.{true};
-ghost use lib.ListN.{length};
+ghost use lib.ListN.{length, replicate};
 ghost use Rattle.verdicts.specs.declared.Place.the-variants.{Whole};
-ghost use Rattle.verdicts.specs.Rows.{accepted};
-ghost use Rattle.card_model.specs.Layout.{tableOf, directoryOf};
-ghost use Rattle.card_model.specs.Calls.{directoryRows, verdictOf, checkOf, notChecked, notListed, listedEntry, listOf, entryNamed, readRows, readVerdict, leftBy, readBuffer};
+ghost use Rattle.verdicts.specs.Rows.{accepted, unlessRefused};
+ghost use Rattle.card_model.specs.Layout.{rootOf, tableOf, directoryOf};
+ghost use Rattle.card_model.specs.Calls.{lengthRow, tableRows, directoryRows, checkOf, notChecked, notListed, listedEntry, listOf, entryNamed, readRows, readVerdict, leftBy, readBuffer};
 ghost use Rattle.card_model.specs.Files.{filesBefore};
 ghost use Rattle.card_model.specs.Sound.{NoRowRefuses};
+ghost use Rattle.card_directory.specs.Fields.{Head};
+ghost use Rattle.card_directory.specs.Listed.{Listed, Holds};
 ghost use Rattle.card_chains.specs.Marks.{noMarks, Marking};
+ghost use Rattle.card_games.specs.Rules.{GoodChains};
 ghost use Rattle.card_names.specs.Slots.{AllNames};
-ghost use Rattle.card.specs.Lists.{Unfilled, Filled};
+ghost use Rattle.card.specs.Parts.{fileRows, nameRows};
 
 const LENGTH: usize = 131072;
 
-// Refusals 26 to 30, and how many entries are used. These are listed; where no row refuses, the blocks of their files are marked, and
-// their names are in the table.
-fn judge_files(
+// Refusals 20 to 25. The length is tested here, before all that asks for it.
+fn judge_table(card: &[u8]) -> Verdict
+    ensures { λ r. ⌜ r ≡ unlessRefused (lengthRow (now (card .entry))) (tableRows (rootOf (now (card .entry))) (tableOf (now (card .entry)))) ⌝ }
+{
+    if card.len() != LENGTH {
+        return refused_at(20, Place::Whole);
+    }
+    table_verdict(card)
+}
+
+// Refusals 26 to 28. The used entries and their fields are listed; where no row refuses, the blocks of their files are marked.
+fn judge_chains(
     card: &[u8],
     marks: &mut [u8; 200],
     used: &mut [u8; 208],
-    slots: &mut [u8; 2048],
-    next: &mut [u8; 208],
+    heads: &mut [u32; 208],
+    tails: &mut [u32; 208],
 ) -> UsedEntries
     requires { ⌜ (length (now card) ≡ 131072) × (now marks ≡ noMarks) ⌝ }
-    requires { ⌜ Unfilled (now used) (now slots) (now next) ⌝ }
-    ensures { λ r. ⌜ r .verdict ≡ directoryRows (tableOf (now (card .entry))) (directoryOf (now (card .entry))) ⌝ }
+    requires { ⌜ (length (now used) ≡ 208) × (length (now heads) ≡ 208) × (length (now tails) ≡ 208) ⌝ }
+    ensures { λ r. ⌜ r .verdict ≡ fileRows (tableOf (now (card .entry))) (directoryOf (now (card .entry))) ⌝ }
     ensures { λ r. ⌜ (accepted (r .verdict) ≡ true → Marking (filesBefore (tableOf (now (card .entry))) (directoryOf (now (card .entry))) 208) (now (marks .exit))) ⌝ }
-    ensures { λ r. ⌜ (accepted (r .verdict) ≡ true → Filled (now (card .entry)) (now (used .exit)) (now (slots .exit)) (now (next .exit)) (r .count)) ⌝ }
+    ensures { λ r. ⌜ Listed (directoryOf (now (card .entry))) 208 (now (used .exit)) (r .count) ⌝ }
+    ensures { λ r. ⌜ Holds Head (directoryOf (now (card .entry))) (now (used .exit)) (now (heads .exit)) (r .count) ⌝ }
 {
-    let mut heads = [0u32; 208];
-    let mut tails = [0u32; 208];
-    let list = list_used(card, used, &mut heads, &mut tails);
+    let list = list_used(card, used, heads, tails);
     let count = list.count;
     if list.verdict.number != 0 {
         return list;
     }
-    let chains = walk_files(card, used, &heads, &tails, count, marks);
-    if chains.number != 0 {
-        return UsedEntries {
-            verdict: chains,
-            count,
-        };
+    UsedEntries {
+        verdict: walk_files(card, used, heads, tails, count, marks),
+        count,
     }
+}
+
+// Refusals 29 and 30, over the list. Where neither applies, the names are in the table.
+fn judge_names(
+    card: &[u8],
+    used: &[u8; 208],
+    heads: &[u32; 208],
+    count: usize,
+    slots: &mut [u8; 2048],
+    next: &mut [u8; 208],
+) -> Verdict
+    requires { ⌜ (length (now card) ≡ 131072) × (now slots ≡ replicate 2048 0) × (length (now next) ≡ 208) ⌝ }
+    requires { ⌜ GoodChains (tableOf (now card)) (directoryOf (now card)) ⌝ }
+    requires { ⌜ Listed (directoryOf (now card)) 208 (now used) count ⌝ }
+    requires { ⌜ Holds Head (directoryOf (now card)) (now used) (now heads) count ⌝ }
+    ensures { λ r. ⌜ r ≡ nameRows (tableOf (now (card .entry))) (directoryOf (now (card .entry))) ⌝ }
+    ensures { λ r. ⌜ (accepted r ≡ true → AllNames (directoryOf (now (card .entry))) (now (used .entry)) (now (slots .exit)) (now (next .exit))) ⌝ }
+{
     let names = name_row(card, used, count, slots, next);
+    if names.number != 0 {
+        return names;
+    }
+    game_row(card, used, heads, count)
+}
+
+// Refusals 26 to 30, for check and list.
+fn judge_files(card: &[u8], marks: &mut [u8; 200], used: &mut [u8; 208]) -> UsedEntries
+    requires { ⌜ (length (now card) ≡ 131072) × (now marks ≡ noMarks) × (length (now used) ≡ 208) ⌝ }
+    ensures { λ r. ⌜ r .verdict ≡ directoryRows (tableOf (now (card .entry))) (directoryOf (now (card .entry))) ⌝ }
+    ensures { λ r. ⌜ (accepted (r .verdict) ≡ true → Marking (filesBefore (tableOf (now (card .entry))) (directoryOf (now (card .entry))) 208) (now (marks .exit))) ⌝ }
+    ensures { λ r. ⌜ Listed (directoryOf (now (card .entry))) 208 (now (used .exit)) (r .count) ⌝ }
+{
+    let mut heads = [0u32; 208];
+    let mut tails = [0u32; 208];
+    let chains = judge_chains(card, marks, used, &mut heads, &mut tails);
+    let count = chains.count;
+    if chains.verdict.number != 0 {
+        return chains;
+    }
+    let names = name_row_alone(card, used, count);
     if names.number != 0 {
         return UsedEntries {
             verdict: names,
@@ -75,34 +123,6 @@ fn judge_files(
         verdict: game_row(card, used, &heads, count),
         count,
     }
-}
-
-// Refusals 20 to 30.
-fn judge(
-    card: &[u8],
-    used: &mut [u8; 208],
-    slots: &mut [u8; 2048],
-    next: &mut [u8; 208],
-) -> UsedEntries
-    requires { ⌜ Unfilled (now used) (now slots) (now next) ⌝ }
-    ensures { λ r. ⌜ r .verdict ≡ verdictOf (now (card .entry)) ⌝ }
-    ensures { λ r. ⌜ (accepted (r .verdict) ≡ true → Filled (now (card .entry)) (now (used .exit)) (now (slots .exit)) (now (next .exit)) (r .count)) ⌝ }
-{
-    if card.len() != LENGTH {
-        return UsedEntries {
-            verdict: refused_at(20, Place::Whole),
-            count: 0,
-        };
-    }
-    let table = table_verdict(card);
-    if table.number != 0 {
-        return UsedEntries {
-            verdict: table,
-            count: 0,
-        };
-    }
-    let mut marks = [0u8; 200];
-    judge_files(card, &mut marks, used, slots, next)
 }
 
 fn not_checked(verdict: Verdict) -> Checked
@@ -127,9 +147,7 @@ pub fn check(card: &[u8]) -> Checked
     }
     let mut marks = [0u8; 200];
     let mut used = [0u8; 208];
-    let mut slots = [0u8; 2048];
-    let mut next = [0u8; 208];
-    let judged = judge_files(card, &mut marks, &mut used, &mut slots, &mut next);
+    let judged = judge_files(card, &mut marks, &mut used);
     let verdict = judged.verdict;
     if verdict.number != 0 {
         return not_checked(verdict);
@@ -182,10 +200,13 @@ fn listed(i: usize, found: &[u8]) -> Listing
 pub fn list(card: &[u8], from: usize) -> Listing
     ensures { λ r. ⌜ r ≡ listOf (now (card .entry)) from ⌝ }
 {
+    let table = judge_table(card);
+    if table.number != 0 {
+        return not_listed(table);
+    }
+    let mut marks = [0u8; 200];
     let mut used = [0u8; 208];
-    let mut slots = [0u8; 2048];
-    let mut next = [0u8; 208];
-    let judged = judge(card, &mut used, &mut slots, &mut next);
+    let judged = judge_files(card, &mut marks, &mut used);
     if judged.verdict.number != 0 {
         return not_listed(judged.verdict);
     }
@@ -234,12 +255,23 @@ pub fn read(card: &[u8], name: &[u8], index: usize, block: &mut [u8]) -> Verdict
     ensures { λ r. ⌜ r ≡ readVerdict (now (card .entry)) (now (name .entry)) index (now (block .entry)) ⌝ }
     ensures { λ _. ⌜ now (block .exit) ≡ readBuffer (now (card .entry)) (now (name .entry)) index (now (block .entry)) ⌝ }
 {
+    let table = judge_table(card);
+    if table.number != 0 {
+        return table;
+    }
+    let mut marks = [0u8; 200];
     let mut used = [0u8; 208];
+    let mut heads = [0u32; 208];
+    let mut tails = [0u32; 208];
+    let chains = judge_chains(card, &mut marks, &mut used, &mut heads, &mut tails);
+    if chains.verdict.number != 0 {
+        return chains.verdict;
+    }
     let mut slots = [0u8; 2048];
     let mut next = [0u8; 208];
-    let judged = judge(card, &mut used, &mut slots, &mut next);
-    if judged.verdict.number != 0 {
-        return judged.verdict;
+    let names = judge_names(card, &used, &heads, chains.count, &mut slots, &mut next);
+    if names.number != 0 {
+        return names;
     }
     read_file(card, &used, &slots, &next, name, index, block)
 }

@@ -115,6 +115,20 @@ pub fn name_row(
     done()
 }
 
+// The same with a table that isn't kept. It is made only where there are two names.
+pub fn name_row_alone(card: &[u8], used: &[u8; 208], count: usize) -> Verdict
+    requires { ⌜ length (now card) ≡ 131072 ⌝ }
+    requires { ⌜ Listed (directoryOf (now card)) 208 (now used) count ⌝ }
+    ensures { λ r. ⌜ r ≡ nameRow (directoryOf (now (card .entry))) ⌝ }
+{
+    if count < 2 {
+        return done();
+    }
+    let mut slots = [0u8; 2048];
+    let mut next = [0u8; 208];
+    name_row(card, used, count, &mut slots, &mut next)
+}
+
 // The entry of this name, where no two have the same.
 pub fn find_named(
     card: &[u8],
