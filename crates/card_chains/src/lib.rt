@@ -31,7 +31,7 @@ ghost use Rattle.card_model.specs.Files.{chain, filesBefore, isOrphan, orphans}
 ghost use Rattle.card_model.specs.Sound.{entryOn};
 ghost use Rattle.card_directory.specs.Fields.{firstIn, sizeIn};
 ghost use Rattle.card_directory.specs.Listed.{Listed, Gathered};
-ghost use Rattle.card_chains.specs.Marks.{noMarks, Lengths, Marking, chainRows, Walked, isShared};
+ghost use Rattle.card_chains.specs.Marks.{noMarks, Lengths, Marking, chainRows, Walked};
 
 // The walk along the file of number j of the list.
 fn walk_file(
@@ -53,17 +53,14 @@ fn walk_file(
     )
 }
 
-// The first entry that shares a block, 208 for none: the one remembered, or else entry i.
-fn remember(first: usize, found: u8, i: usize) -> usize
-    ensures { λ r. ⌜ r ≡ cond (ltb first 208) first (cond (isShared found) i first) ⌝ }
+// The first entry that shares a block: the one remembered, or else this one. 208 is none.
+fn remember(first: usize, i: usize) -> usize
+    ensures { λ r. ⌜ r ≡ cond (ltb first 208) first i ⌝ }
 {
     if first < 208 {
         return first;
     }
-    if found == SHARED {
-        return i;
-    }
-    first
+    i
 }
 
 // Refusals 27 and 28, over the list of the used entries. A bad chain anywhere comes before a shared block, so the first entry that
@@ -90,12 +87,13 @@ pub fn walk_files(
     let mut first: usize = 208;
     let mut j = 0;
     while j < count {
-        let i = listed_at(used, j);
         let found = walk_file(&table, marks, heads, tails, j);
         if found == BROKEN {
-            return refused_at(27, Place::Entry(i));
+            return refused_at(27, Place::Entry(listed_at(used, j)));
         }
-        first = remember(first, found, i);
+        if found == SHARED {
+            first = remember(first, listed_at(used, j));
+        }
         j += 1;
     }
     if first < 208 {

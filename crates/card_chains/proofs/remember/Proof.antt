@@ -1,5 +1,5 @@
 -- `remember` meets its contract. Assumes nothing.
-use borrow.Author.Tests.{lt-ltb, le-ltb, eq-eqb, ne-eqb}
+use borrow.Author.Tests.{lt-ltb, le-ltb}
 use Rattle.card_chains.proofs.remember.Statement.{statement}
 use Rattle.card_chains.proofs.remember.Tie as tie
 
@@ -7,10 +7,7 @@ returns : tie.Need-returns
 returns c = rw (lt-ltb _ _ (c .if1 .taken))
 
 returns-2 : tie.Need-returns-2
-returns-2 c = rw (le-ltb _ _ (c .before .if1 .left), eq-eqb _ _ (c .if2 .taken))
-
-returns-3 : tie.Need-returns-3
-returns-3 c = rw (le-ltb _ _ (c .before .if1 .left), ne-eqb _ _ (c .if2 .left))
+returns-2 c = rw (le-ltb _ _ (c .if1 .left))
 
 pub remember-spec : {M : Type 1} → statement M
-remember-spec = tie.close (tie.spec returns returns-2 returns-3)
+remember-spec = tie.close (tie.spec returns returns-2)

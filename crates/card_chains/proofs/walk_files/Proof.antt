@@ -2,10 +2,13 @@
 -- bad, the first of them that shares a block is remembered, and until there is one their blocks are marked. Assumes nothing.
 use Prim.Native.Nat.{ℕ, _+_, _-_, _≤_, _<_}
 use mathlib.Core.Path.{_≡_, refl, sym, ap, _∙_}
-use mathlib.Core.Bool.{Bool, false≢true}
+use mathlib.Core.Logic.{_⊎_, inl, inr, ⊎-elim}
+use mathlib.Core.Bool.{Bool, true, false, cond, false≢true}
 use mathlib.Core.List.{List}
 use mathlib.Core.Option.{none, some}
 use native.Mathlib.Omega.{arith}
+use lib.Dec.{ltb}
+use lib.ListN.{getD}
 use Rattle.verdicts.specs.declared.Place.the-variants.{Entry}
 use Rattle.verdicts.specs.declared.Verdict.{Verdict}
 use Rattle.verdicts.specs.Rows.{done, refusedAt, accepted}
@@ -14,7 +17,7 @@ use Rattle.card_model.specs.Entries.{entryAt}
 use Rattle.card_model.specs.Files.{badChain, chainRow, filesBefore, sharesBlock, sharingRow}
 use Rattle.card_directory.specs.Listed.{reached, Listed}
 use Rattle.card_directory.proofs.ListedLaws.{reached-next, listed-below, listed-used, holds-at, stays, stays-to-end, firstFrom, found-here, found-later, found-none}
-use Rattle.card_chains.specs.Marks.{Lengths, Marking, chainRows}
+use Rattle.card_chains.specs.Marks.{Lengths, Marking, chainRows, isShared}
 use Rattle.card_chains.proofs.MarkLaws.{lengths-start, marking-start, files-stay, unused-bad, unused-shares, walk-broken, walk-lengths, walk-shares, walk-marking}
 use Rattle.card_chains.proofs.FirstLaws.{orEnd, firstBefore, before-same, first-next, still-none, first-some, first-none}
 use Rattle.card_chains.proofs.WalkLaws.{fields-walkable, fields-walked}
@@ -63,6 +66,16 @@ module _ (card : List ℕ) where
     unfolding chainRow firstFrom sharingRow firstBefore
     neither-refused e = rw (sound, e)
 
+-- what is remembered after a file: the first that shares, this one or an earlier one
+remembered : (r first i found : ℕ) → ((found ≡ 1) × (r ≡ cond (ltb first 208) first i)) ⊎ ((found ≡ 1 → ⊥) × (r ≡ first))
+    → r ≡ cond (ltb first 208) first (cond (isShared found) i first)
+remembered r first i found (inl t) = rw (eq-eqb found 1 (t .0)) (t .1)
+remembered r first i found (inr t) = rw (ne-eqb found 1 (t .0)) (t .1 ∙ go (ltb first 208))
+  where
+    go : (s : Bool) → first ≡ cond s first first
+    go true = refl
+    go false = refl
+
 -- where all files are passed, j of them
 module _ (card : List ℕ) {used : List ℕ} {count : ℕ} (list : Listed (directoryOf card) 208 used count) (j : ℕ) (z : j ≡ count) where
   none-bad : firstFrom (bad card) 0 ≡ firstFrom (bad card) (reached used j) → firstFrom (bad card) 0 ≡ none
@@ -95,35 +108,33 @@ loop-holds c =
     let none = c .before .before .before .pre .0 .1 in
     (omega arith, rw none (lengths-start _), refl, start _, λ h. rw none (marking-start _ _))
 
-listed-at-requires : tie.Need-listed-at-requires Inv-loop μ-loop
-listed-at-requires c κs =
-    let a = c .before .before .before .before .before in
-    omega (arith, a .pre .1 .0 .fits)
-
 walk-file-requires : tie.Need-walk-file-requires Inv-loop μ-loop
 walk-file-requires c κs =
-    let n = c .before .before in
-    let l = n .before .before in
+    let l = c .before .before .before in
     let a = l .before .before .before .before in
     let list = a .pre .1 .0 in
-    let e = n .listed-at .ensures in
     let j = l .loop .j in
     let h : j < a .args .count = omega arith in
     let fields = a .pre .1 .1 .1 in
-    let right = a .pre .1 .1 .0 _ (listed-below list j _ e h) in
-    let w = fields-walkable (holds-at (fields .in-heads) j _ e h) (holds-at (fields .in-tails) j _ e h) (listed-used list j _ e h) right in
+    let right = a .pre .1 .1 .0 _ (listed-below list j _ refl h) in
+    let w = fields-walkable (holds-at (fields .in-heads) j _ refl h) (holds-at (fields .in-tails) j _ refl h) (listed-used list j _ refl h) right in
     ((omega (arith, list .fits), w .0, w .1), rw (l .before .read-table .ensures) (l .loop .inv .1))
+
+listed-at-requires : tie.Need-listed-at-requires Inv-loop μ-loop
+listed-at-requires c κs =
+    let a = c .before .before .before .before .before .before .before .before .before in
+    omega (arith, a .pre .1 .0 .fits)
 
 refused-at-requires : tie.Need-refused-at-requires Inv-loop μ-loop
 refused-at-requires c κs = search needs
 
 returns-2 : tie.Need-returns-2 Inv-loop μ-loop
 returns-2 c =
-    let d = c .before in
+    let n = c .before in
+    let d = n .before in
     let w = d .before in
     let v = c .refused-at .ensures in
-    let n = w .before .before .before in
-    let l = n .before .before in
+    let l = w .before .before .before .before in
     let r = l .before in
     let a = r .before .before .before in
     let card = a .args .card .now in
@@ -135,6 +146,11 @@ returns-2 c =
     let walked = fields-walked (holds-at (fields .in-heads) j _ e h) (holds-at (fields .in-tails) j _ e h) (rw (r .read-table .ensures) at (w .walk-file .ensures)) in
     let b = sym (walk-broken _ _ _ (listed-used list j _ e h) walked) ∙ eq-eqb _ _ (d .if2 .taken) in
     (v ∙ chain-refused card _ (l .loop .inv .2 ∙ found-here _ (bad card) (unused-bad _ _) list j _ e h b), λ e. absurd (false≢true (sym (ap accepted v) ∙ e)))
+
+listed-at-requires-2 : tie.Need-listed-at-requires-2 Inv-loop μ-loop
+listed-at-requires-2 c κs =
+    let a = c .before .before .before .before .before .before .before .before .before .before in
+    omega (arith, a .pre .1 .0 .fits)
 
 remember-requires : tie.Need-remember-requires Inv-loop μ-loop
 remember-requires c κs = search needs
@@ -148,33 +164,34 @@ loop-less c = search needs
 loop-again : tie.Need-loop-again Inv-loop μ-loop
 loop-again c =
     let w = c .before .before in
-    let n = w .before .before .before in
-    let l = n .before .before in
+    let l = w .before .before .before .before in
     let r = l .before in
     let a = r .before .before .before in
     let card = a .args .card .now in
     let list = a .pre .1 .0 in
     let j = l .loop .j in
-    let e = n .listed-at .ensures in
     let h : j < a .args .count = omega arith in
     let below : j + 1 ≤ a .args .count = omega arith in
-    let b = listed-below list j _ e h in
-    let u = listed-used list j _ e h in
+    let b = listed-below list j _ refl h in
+    let u = listed-used list j _ refl h in
     let fields = a .pre .1 .1 .1 in
-    let walked = fields-walked (holds-at (fields .in-heads) j _ e h) (holds-at (fields .in-tails) j _ e h) (rw (r .read-table .ensures) at (w .walk-file .ensures)) in
-    let same = stays _ (files card) (files-stay _ _) list j _ e h in
+    let walked = fields-walked (holds-at (fields .in-heads) j _ refl h) (holds-at (fields .in-tails) j _ refl h) (rw (r .read-table .ensures) at (w .walk-file .ensures)) in
+    let same = stays _ (files card) (files-stay _ _) list j _ refl h in
     let m = rw same at (l .loop .inv .4) in
     let sound = ne-eqb _ _ (c .before .if2 .left) in
     let good = sym (walk-broken _ _ _ u walked) ∙ sound in
-    let first = l .loop .inv .3 ∙ ap (orEnd 208) (stays _ (firstBefore (shares card)) (λ k q. before-same _ k (unused-shares _ _ k q)) list j _ e h) in
-    let on = reached-next _ j _ e in (
+    let first = l .loop .inv .3 ∙ ap (orEnd 208) (stays _ (firstBefore (shares card)) (λ k q. before-same _ k (unused-shares _ _ k q)) list j _ refl h) in
+    let f = remembered (c .if3 .first) (l .loop .first) (getD (a .args .used .now) j 0) (w .walk-file .result)
+    (⊎-elim (λ t. inl (t .0 .taken, t .3 ∙ t .2 .ensures ∙ ap (λ (i : ℕ). cond (ltb (l .loop .first) 208) (l .loop .first) i) (t .1 .ensures)))
+    (λ t. inr (t .0 .left, t .1)) (c .if3 .came)) in
+    let on = reached-next _ j _ refl in (
       below,
       walk-lengths _ _ _ u walked sound,
-      l .loop .inv .2 ∙ found-later _ (bad card) (unused-bad _ _) list j _ e h good,
-      first-next (shares card) _ (l .loop .first) _ _ _ b (c .remember .ensures) first (λ n. walk-shares _ _ _ u walked sound (m n))
+      l .loop .inv .2 ∙ found-later _ (bad card) (unused-bad _ _) list j _ refl h good,
+      first-next (shares card) _ (l .loop .first) _ _ _ b f first (λ n. walk-shares _ _ _ u walked sound (m n))
           ∙ ap (λ (k : ℕ). orEnd 208 (firstBefore (shares card) k)) on,
       λ n.
-          let none = still-none (shares card) _ (l .loop .first) _ _ _ b (c .remember .ensures) n in
+          let none = still-none (shares card) _ (l .loop .first) _ _ _ b f n in
           rw on at (walk-marking _ _ _ u walked sound (m (none .0)) (none .1)),
     )
 
@@ -192,7 +209,7 @@ returns-3 c =
     let z : j ≡ a .args .count = omega arith in
     let first = first-of-all card list j z (l .loop .inv .3) in
     let sound = none-bad card list j z (l .loop .inv .2) in
-    (v ∙ sharing-refused card sound _ (first-some (shares card) _ _ first (c .before .if3 .taken)), λ e. absurd (false≢true (sym (ap accepted v) ∙ e)))
+    (v ∙ sharing-refused card sound _ (first-some (shares card) _ _ first (c .before .if4 .taken)), λ e. absurd (false≢true (sym (ap accepted v) ∙ e)))
 
 done-requires-2 : tie.Need-done-requires-2 Inv-loop μ-loop
 done-requires-2 c κs = search needs
@@ -219,10 +236,11 @@ walk-files-spec =
     returns
     read-table-requires
     loop-holds
-    listed-at-requires
     walk-file-requires
+    listed-at-requires
     refused-at-requires
     returns-2
+    listed-at-requires-2
     remember-requires
     add-j
     loop-less
