@@ -1,7 +1,7 @@
 -- The hash table of the listed names, and what a search in it tells. Assumes nothing.
 use Prim.Native.Nat.{ℕ, suc, _+_, _-_, _≤_, _<_}
 use mathlib.Core.Path.{_≡_, refl, sym, ap, _∙_}
-use mathlib.Core.Bool.{Bool, true, false, true≢false, false≢true}
+use mathlib.Core.Bool.{Bool, true, false, false≢true}
 use mathlib.Core.List.{List}
 use mathlib.Core.Option.{none, some}
 use native.Mathlib.Omega.{arith}
@@ -13,13 +13,13 @@ use borrow.Author.Tests.{ltb-true, ltb-false}
 use Rattle.words.specs.Words.{sameBytes}
 use Rattle.words.proofs.Bools.{and-true-left, and-true-right}
 use Rattle.words.proofs.JoinLaws.{any-range}
-use Rattle.words.proofs.SearchLaws.{IsLowest, lowest-is, lowest-nothing}
+use Rattle.words.proofs.SearchLaws.{lowest-is, lowest-nothing}
 use Rattle.words.proofs.WordLaws.{same-eq, eq-same}
 use Rattle.card_model.specs.Entries.{nameOf, isUsed, entryAt, isNamed, nameTaken}
 use Rattle.card_model.specs.Calls.{entryNamed}
 use Rattle.card_directory.specs.Listed.{reached, Listed}
 use Rattle.card_directory.proofs.DirectoryLaws.{unused-name, used-name}
-use Rattle.card_directory.proofs.ListedLaws.{listed-below, listed-used, listed-index, listed-rises, listed-before}
+use Rattle.card_directory.proofs.ListedLaws.{listed-used, listed-index, listed-rises, listed-before}
 use Rattle.card_names.specs.Slots.{slotOf, nameAt, slotAt, LastOf, Chained, Slots}
 
 -- ---- names

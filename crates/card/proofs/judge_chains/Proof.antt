@@ -3,7 +3,6 @@ use mathlib.Core.Path.{_∙_}
 use borrow.Author.Tests.{eqb-true}
 use Rattle.card_model.specs.Layout.{tableOf, directoryOf}
 use Rattle.card.proofs.JudgeLaws.{fields-refused, fields-right, past-fields}
-use borrow.Author.Needs.{needs}
 use Rattle.card.proofs.judge_chains.Statement.{statement}
 use Rattle.card.proofs.judge_chains.Tie as tie
 

@@ -3,7 +3,6 @@ use mathlib.Core.Path.{refl, _∙_}
 use borrow.Author.Tests.{eqb-true, eq-eqb}
 use Rattle.card_model.specs.Layout.{tableOf, directoryOf}
 use Rattle.card.proofs.JudgeLaws.{chains-refused, past-chains, good-chains, names-refused, past-names}
-use borrow.Author.Needs.{needs}
 use Rattle.card.proofs.judge_files.Statement.{statement}
 use Rattle.card.proofs.judge_files.Tie as tie
 

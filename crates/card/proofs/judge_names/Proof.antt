@@ -3,7 +3,6 @@ use mathlib.Core.Path.{_∙_}
 use borrow.Author.Tests.{eqb-true, eq-eqb}
 use Rattle.card_model.specs.Layout.{tableOf, directoryOf}
 use Rattle.card.proofs.JudgeLaws.{names-refused, past-names}
-use borrow.Author.Needs.{needs}
 use Rattle.card.proofs.judge_names.Statement.{statement}
 use Rattle.card.proofs.judge_names.Tie as tie
 

@@ -1,7 +1,6 @@
 -- `is_game_in` meets its contract. Assumes nothing.
 use mathlib.Core.Path.{refl}
 use Rattle.card_directory.specs.Fields.{isGameIn, kindIn}
-use borrow.Author.Needs.{needs}
 use Rattle.card_directory.proofs.fields.is_game_in.Statement.{statement}
 use Rattle.card_directory.proofs.fields.is_game_in.Tie as tie
 

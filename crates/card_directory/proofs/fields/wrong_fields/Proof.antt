@@ -1,7 +1,6 @@
 -- `wrong_fields` meets its contract. Assumes nothing.
 use mathlib.Core.Path.{refl}
 use Rattle.card_directory.specs.Fields.{kindIn, flagIn, firstIn, sizeIn, offsetIn, wrongFields}
-use borrow.Author.Needs.{needs}
 use Rattle.card_directory.proofs.fields.wrong_fields.Statement.{statement}
 use Rattle.card_directory.proofs.fields.wrong_fields.Tie as tie
 

@@ -1,10 +1,8 @@
 -- `put` meets its contract. Assumes nothing.
-use Prim.Native.Nat.{ℕ, _+_, _*_, _≤_, _<_}
-use mathlib.Core.Path.{_≡_, sym, ap, subst, _∙_}
+use Prim.Native.Nat.{_+_, _*_, _≤_, _<_}
+use mathlib.Core.Path.{sym, ap, _∙_}
 use native.Mathlib.Omega.{arith}
-use Rattle.card_model.specs.Layout.{directoryOf}
-use Rattle.card_model.specs.Entries.{isUsed, entryAt}
-use Rattle.card_directory.specs.Fields.{Head, Tail}
+use Rattle.card_model.specs.Entries.{isUsed}
 use Rattle.card_directory.proofs.ListedLaws.{put-next, gathered-next}
 use borrow.Author.Needs.{needs}
 use Rattle.card_directory.proofs.listing.put.Statement.{statement}
