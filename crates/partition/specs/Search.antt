@@ -1,7 +1,8 @@
 -- The search for a number's contents, as it goes down the blocks.
 -- Assumes nothing.
-use Prim.Native.Nat.{ℕ}
-use mathlib.Core.Bool.{_&&_}
+use Prim.Native.Nat.{ℕ, _≤_, _<_}
+use mathlib.Core.Path.{_≡_}
+use mathlib.Core.Bool.{true, _&&_}
 use mathlib.Core.List.{List}
 use lib.Dec.{eqb}
 use Rattle.words.specs.Search.{highest}
@@ -9,13 +10,13 @@ use Rattle.flash_model.specs.UserBlock.{number, rightChecksum}
 use Rattle.flash_model.specs.Partition.{blockAt}
 use Rattle.bitmap.specs.Over.{asFound}
 use Rattle.bitmap.specs.declared.Found.{Found}
-use Rattle.bitmap.specs.declared.Found.the-variants.{At, Nothing}
 
 -- The highest of the blocks 1 to k that has the number and a right checksum.
 unfoldable pub foundUpTo : List ℕ → ℕ → ℕ → Found
 foundUpTo image n k = asFound (highest (λ j. eqb (number (blockAt image j)) n && rightChecksum (blockAt image j)) k)
 
--- What was found, or else what the rest of the search finds.
-abbrev pub orElse : Found → Found → Found
-orElse (At k) rest = At k
-orElse Nothing rest = rest
+-- The search down from `top` comes to r, which has the number unless it is 0.
+pub record NextNumbered (image : List ℕ) (n top r : ℕ) : Type 0 where
+  pub below : r ≤ top
+  pub same : foundUpTo image n top ≡ foundUpTo image n r
+  pub has-number : 0 < r → eqb (number (blockAt image r)) n ≡ true

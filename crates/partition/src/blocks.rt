@@ -3,16 +3,15 @@ use bitmap::Found;
 use measures::Measures;
 use words::word;
 ghost use mathlib.Core.Path.{_≡_};
-ghost use mathlib.Core.Bool.{true, false, _&&_};
+ghost use mathlib.Core.Bool.{true, false};
 ghost use Prim.Native.Nat.{_-_, _≤_};
-ghost use lib.Dec.{eqb};
 ghost use lib.ListN.{length, take};
 ghost use Rattle.flash_model.specs.UserBlock as model;
 ghost use Rattle.flash_model.specs.Measures.{capacity, legalNumber};
 ghost use Rattle.flash_model.specs.Partition.{blockAt, holder};
 ghost use Rattle.bitmap.specs.Over.{Over, asFound};
 ghost use Rattle.partition.specs.Usable.{Usable};
-ghost use Rattle.partition.specs.Search.{foundUpTo, orElse};
+ghost use Rattle.partition.specs.Search.{foundUpTo, NextNumbered};
 
 // The part of the image that begins with block k.
 pub fn part_from(image: &[u8], m: Measures, k: usize) -> &[u8]
@@ -30,20 +29,6 @@ pub fn right_checksum(part: &[u8]) -> bool
     ensures { λ r. ⌜ r ≡ model.rightChecksum (take 64 (now (part .entry))) ⌝ }
 {
     word(part, 62) == checksum::checksum(&part[0..62]) as usize
-}
-
-// Whether the block that begins this part has the number and a right checksum. The checksum is worked only for the number
-// asked. It is compared here again: with one caller it would be compiled into `right_checksum`, and loops would store a slice for
-// that, a call they seldom make, at every block.
-pub fn holds_number(part: &[u8], number: usize) -> bool
-    requires { ⌜ 64 ≤ length (now part) ⌝ }
-    ensures { λ r. ⌜ r ≡ (eqb (model.number (take 64 (now (part .entry)))) number && model.rightChecksum (take 64 (now (part .entry)))) ⌝ }
-{
-    if word(part, 0) != number {
-        return false;
-    }
-    let sum = checksum::checksum(&part[0..62]) as usize;
-    word(part, 62) == sum
 }
 
 // Whether one of the eight blocks up to k has the number. The loop has no way out, so that it is compiled to eight tests in a row.
@@ -77,24 +62,24 @@ fn pass_eights(image: &[u8], m: Measures, top: usize, number: usize) -> usize
     k
 }
 
-// The search from `top` down to the block above `bottom`.
-fn find_above(image: &[u8], m: Measures, bottom: usize, top: usize, number: usize) -> Found
+// The highest block up to `top` that has the number, or 0: looked for one by one only where one of eight has it.
+fn numbered(image: &[u8], m: Measures, top: usize, number: usize) -> usize
     requires { ⌜ Over (now image) (m .size) ⌝ }
-    requires { ⌜ (bottom ≤ top) × (top ≤ capacity (m .size)) ⌝ }
-    ensures { λ r. ⌜ foundUpTo (now (image .entry)) number top ≡ orElse r (foundUpTo (now (image .entry)) number bottom) ⌝ }
+    requires { ⌜ top ≤ capacity (m .size) ⌝ }
+    ensures { λ r. ⌜ NextNumbered (now (image .entry)) number top r ⌝ }
 {
-    let mut k = top;
-    while bottom < k {
-        if holds_number(part_from(image, m, k), number) {
-            return Found::At(k);
+    let mut k = pass_eights(image, m, top, number);
+    while 0 < k {
+        if word(part_from(image, m, k), 0) == number {
+            return k;
         }
         k -= 1;
     }
-    Found::Nothing
+    0
 }
 
-// The block that holds the contents of a number: searched from the highest used block down, one by one only where one of eight has
-// the number. Callers have tested the number, so that this is small enough to be compiled into them.
+// The block that holds the contents of a number, searched from the highest used block down. A checksum is worked only for the
+// number asked. Callers have tested the number, so that this is small enough to be compiled into them.
 pub fn find(image: &[u8], m: Measures, used: usize, number: usize) -> Found
     requires { ⌜ Usable (now image) (m .size) used ⌝ }
     requires { ⌜ legalNumber (m .size) number ≡ true ⌝ }
@@ -102,13 +87,14 @@ pub fn find(image: &[u8], m: Measures, used: usize, number: usize) -> Found
 {
     let mut k = used;
     while 0 < k {
-        let top = pass_eights(image, m, k, number);
-        let bottom = if top < 8 { 0 } else { top - 8 };
-        let found = find_above(image, m, bottom, top, number);
-        let Found::Nothing = found else {
-            return found;
-        };
-        k = bottom;
+        let at = numbered(image, m, k, number);
+        if at == 0 {
+            return Found::Nothing;
+        }
+        if right_checksum(part_from(image, m, at)) {
+            return Found::At(at);
+        }
+        k = at - 1;
     }
     Found::Nothing
 }

@@ -1,12 +1,13 @@
 -- `blocks::find` meets its contract. The loop's invariant: the blocks above k are passed. Assumes nothing.
-use Prim.Native.Nat.{_≤_}
-use mathlib.Core.Path.{_≡_, sym, ap, _∙_}
-use mathlib.Core.Logic.{⊎-elim}
+use Prim.Native.Nat.{_≤_, _<_}
+use mathlib.Core.Path.{_≡_, sym, ap, ap₂, _∙_}
+use mathlib.Core.Bool.{_&&_}
 use native.Mathlib.Omega.{arith}
+use Rattle.flash_model.specs.UserBlock.{rightChecksum}
 use Rattle.flash_model.specs.Partition.{holder}
 use Rattle.bitmap.specs.Over.{asFound}
-use Rattle.partition.specs.Search.{foundUpTo, orElse}
-use Rattle.partition.proofs.SearchLaws.{from-used, none-left}
+use Rattle.partition.specs.Search.{foundUpTo}
+use Rattle.partition.proofs.SearchLaws.{from-used, found-here, passed, none-left}
 use Rattle.partition.proofs.UsableLaws.{usable-over, count-most}
 use borrow.Author.Needs.{needs}
 use Rattle.partition.proofs.blocks.find.Statement.{statement}
@@ -23,53 +24,60 @@ loop-holds c =
     let s = c .before in
     (omega arith, from-used (s .args .image .now) (s .args .m .size) (s .args .used) (s .pre .0) (s .args .number) (s .pre .1))
 
-pass-eights-requires : tie.Need-pass-eights-requires Inv-loop μ-loop
-pass-eights-requires c κs =
+numbered-requires : tie.Need-numbered-requires Inv-loop μ-loop
+numbered-requires c κs =
     let s = c .before .before .before in
     let i = s .args .image .now in
     let u = s .pre .0 in
     (usable-over i (s .args .m .size) (s .args .used) u, omega (arith, c .before .loop .inv .0, count-most i (s .args .m .size) (s .args .used) u))
 
-find-above-requires : tie.Need-find-above-requires Inv-loop μ-loop
-find-above-requires c κs =
+returns : tie.Need-returns Inv-loop μ-loop
+returns c =
+    let f = c .before .numbered in
+    let l = c .before .before .before .loop in
+    let a = c .before .before .before .before .before .args in
+    sym (l .inv .1 ∙ f .ensures .same ∙ none-left (a .image .now) (a .number) (f .result) (omega arith))
+
+part-from-requires : tie.Need-part-from-requires Inv-loop μ-loop
+part-from-requires c κs =
     let s = c .before .before .before .before .before in
     let i = s .args .image .now in
     let u = s .pre .0 in
-    let low : c .if1 .bottom ≤ c .before .pass-eights .result = ⊎-elim (λ w. omega arith) (λ w. omega arith) (c .if1 .came) in
-    (usable-over i (s .args .m .size) (s .args .used) u, (low, omega (arith, c .before .before .before .loop .inv .0, c .before .pass-eights .ensures .0, count-most i (s .args .m .size) (s .args .used) u)))
+    (usable-over i (s .args .m .size) (s .args .used) u, omega (arith, c .before .before .before .loop .inv .0, c .before .numbered .ensures .below, count-most i (s .args .m .size) (s .args .used) u))
 
-enum-told : tie.Need-enum-told Inv-loop μ-loop
-enum-told c = search needs
-
-enum-told-2 : tie.Need-enum-told-2 Inv-loop μ-loop
-enum-told-2 c = search needs
-
-returns : tie.Need-returns Inv-loop μ-loop
-returns c =
-    let f = c .before .before .find-above in
-    let p = c .before .before .before .before .pass-eights in
-    let l = c .before .before .before .before .before .before .loop in
-    let a = c .before .before .before .before .before .before .before .before .args in
-    let rest = foundUpTo (a .image .now) (a .number) (c .before .before .before .if1 .bottom) in
-    sym (l .inv .1 ∙ p .ensures .1 ∙ f .ensures ∙ ap (λ r. orElse r rest) (c .enum-told2 .given .1) ∙ sym (c .enum-told2 .given .1))
-
-loop-less : tie.Need-loop-less Inv-loop μ-loop
-loop-less c = ⊎-elim (λ w. omega arith) (λ w. omega arith) (c .before .before .before .if1 .came)
-
-loop-again : tie.Need-loop-again Inv-loop μ-loop
-loop-again c =
-    let f = c .before .before .find-above in
-    let p = c .before .before .before .before .pass-eights in
-    let l = c .before .before .before .before .before .before .loop in
-    let a = c .before .before .before .before .before .before .before .before .args in
-    let rest = foundUpTo (a .image .now) (a .number) (c .before .before .before .if1 .bottom) in
-    let j = c .before .before .before .if1 in (
-      ⊎-elim (λ w. omega arith) (λ w. omega arith) (j .came),
-      l .inv .1 ∙ p .ensures .1 ∙ f .ensures ∙ ap (λ r. orElse r rest) (c .enum-told .given .1),
-    )
+right-checksum-requires : tie.Need-right-checksum-requires Inv-loop μ-loop
+right-checksum-requires c κs = search needs
 
 returns-2 : tie.Need-returns-2 Inv-loop μ-loop
 returns-2 c =
+    let f = c .before .before .before .before .numbered in
+    let l = c .before .before .before .before .before .before .loop in
+    let a = c .before .before .before .before .before .before .before .before .args in
+    let above : 0 < f .result = omega (arith, c .before .before .before .if1 .left) in
+    let right = ap rightChecksum (sym (c .before .before .part-from .ensures .0)) ∙ sym (c .before .right-checksum .ensures) ∙ c .if2 .taken in
+    sym (l .inv .1 ∙ f .ensures .same ∙ found-here (a .image .now) (a .number) (f .result) above (ap₂ _&&_ (f .ensures .has-number above) right))
+
+sub-k : tie.Need-sub-k Inv-loop μ-loop
+sub-k c = search needs
+
+loop-less : tie.Need-loop-less Inv-loop μ-loop
+loop-less c =
+    let f = c .before .before .before .before .numbered in
+    omega (arith, c .before .before .before .if1 .left, f .ensures .below)
+
+loop-again : tie.Need-loop-again Inv-loop μ-loop
+loop-again c =
+    let f = c .before .before .before .before .numbered in
+    let l = c .before .before .before .before .before .before .loop in
+    let a = c .before .before .before .before .before .before .before .before .args in
+    let above : 0 < f .result = omega (arith, c .before .before .before .if1 .left) in
+    let wrong = ap rightChecksum (sym (c .before .before .part-from .ensures .0)) ∙ sym (c .before .right-checksum .ensures) ∙ c .if2 .left in (
+      omega (arith, f .ensures .below, l .inv .0),
+      l .inv .1 ∙ f .ensures .same ∙ passed (a .image .now) (a .number) (f .result) above (ap₂ _&&_ (f .ensures .has-number above) wrong),
+    )
+
+returns-3 : tie.Need-returns-3 Inv-loop μ-loop
+returns-3 c =
     let a = c .before .before .before .args in
     let l = c .before .loop in
     sym (l .inv .1 ∙ none-left (a .image .now) (a .number) (l .k) (c .loop-test .left))
@@ -81,11 +89,12 @@ find-spec =
     Inv-loop
     μ-loop
     loop-holds
-    pass-eights-requires
-    find-above-requires
-    enum-told
-    enum-told-2
+    numbered-requires
     returns
+    part-from-requires
+    right-checksum-requires
+    returns-2
+    sub-k
     loop-less
     loop-again
-    returns-2)
+    returns-3)
