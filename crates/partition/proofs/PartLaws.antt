@@ -5,7 +5,7 @@ use mathlib.Core.List.{List}
 use native.Mathlib.Omega.{arith}
 use lib.Dec.{eqb}
 use lib.ListN.{length, take, drop, length-take, length-drop}
-use lib.Seq.{getD-take, take-take, take-all}
+use lib.Seq.{getD-take, take-take}
 use Rattle.words.specs.Words.{word}
 use Rattle.checksum.specs.Crc.{checksumOf}
 use Rattle.flash_model.specs.Measures.{capacity}
@@ -27,14 +27,14 @@ unfolding rightChecksum
 right-front part a b e f =
     rw (e, f, word-front part 62 (omega arith), take-take 62 64 part (omega arith))
 
--- the part from block k on begins with block k
-pub block-part : (image : List ℕ) (at k : ℕ) → at ≡ k * 64 → take 64 (take (length image - at) (drop at image)) ≡ blockAt image k
+-- the 64 bytes of a part from block k on are block k
+pub block-part : (image : List ℕ) (at k : ℕ) → at ≡ k * 64 → take 64 (take (at + 64 - at) (drop at image)) ≡ blockAt image k
 unfolding blockAt
 block-part image at k e =
-    let f : length (drop at image) ≤ length image - at = omega (arith, length-drop at image) in
-    ap (take 64) (take-all (length image - at) (drop at image) f) ∙ ap (λ (n : ℕ). take 64 (drop n image)) e
+    let f : 64 ≤ at + 64 - at = omega arith in
+    take-take 64 (at + 64 - at) (drop at image) f ∙ ap (λ (n : ℕ). take 64 (drop n image)) e
 
-pub part-length : (image : List ℕ) (at : ℕ) → at + 64 ≤ length image → 64 ≤ length (take (length image - at) (drop at image))
+pub part-length : (image : List ℕ) (at : ℕ) → at + 64 ≤ length image → 64 ≤ length (take (at + 64 - at) (drop at image))
 part-length image at h = simp (length-take, length-drop) (omega arith)
 
 -- a block before the bitmap is whole

@@ -1,5 +1,6 @@
 // User blocks, each read from the part of the image that begins with it, and the search for a number's contents.
 use bitmap::Found;
+use measures::BLOCK;
 use measures::Measures;
 use words::word;
 ghost use mathlib.Core.Path.{_≡_};
@@ -13,14 +14,15 @@ ghost use Rattle.bitmap.specs.Over.{Over, asFound};
 ghost use Rattle.partition.specs.Usable.{Usable};
 ghost use Rattle.partition.specs.Search.{foundUpTo, NextNumbered};
 
-// The part of the image that begins with block k.
+// The part of the image that block k is.
 pub fn part_from(image: &[u8], m: Measures, k: usize) -> &[u8]
     requires { ⌜ Over (now image) (m .size) ⌝ }
     requires { ⌜ k ≤ capacity (m .size) ⌝ }
     ensures { λ r. ⌜ (take 64 (now r) ≡ blockAt (now (image .entry)) k) × (64 ≤ length (now r)) ⌝ }
 {
     let at = m.start(k);
-    &image[at..]
+    let end = at + BLOCK;
+    &image[at..end]
 }
 
 // Whether the block that begins this part has a right checksum.

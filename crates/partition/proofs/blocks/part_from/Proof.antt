@@ -11,19 +11,23 @@ start-requires c κs =
     let a = c .before in
     (a .pre .0 .is-legal, omega (arith, a .pre .1, over-measured (a .args .image .now) (a .args .m .size) (a .pre .0) .first-bitmap))
 
-sub-result : tie.Need-sub-result
-sub-result c =
+add-end : tie.Need-add-end
+add-end c =
     let a = c .before .before in
-    omega (arith, part-whole (a .args .image .now) (a .args .m .size) (a .pre .0) (a .args .k) (a .pre .1), c .start .ensures)
+    let h = part-whole (a .args .image .now) (a .args .m .size) (a .pre .0) (a .args .k) (a .pre .1) in
+    search (needs, h, c .start .ensures)
+
+sub-result : tie.Need-sub-result
+sub-result c = search needs
 
 part-result-start : tie.Need-part-result-start
-part-result-start c =
+part-result-start c = search needs
+
+part-result-end : tie.Need-part-result-end
+part-result-end c =
     let a = c .before .before in
     let h = part-whole (a .args .image .now) (a .args .m .size) (a .pre .0) (a .args .k) (a .pre .1) in
     omega (arith, h, c .start .ensures)
-
-part-result-end : tie.Need-part-result-end
-part-result-end c = search needs
 
 returns : tie.Need-returns
 returns c =
@@ -34,4 +38,5 @@ returns c =
 
 pub part-from-spec : {M : Type 1} → statement M
 part-from-spec =
-    tie.close (tie.spec start-requires sub-result part-result-start part-result-end returns)
+    tie.close
+    (tie.spec start-requires add-end sub-result part-result-start part-result-end returns)
