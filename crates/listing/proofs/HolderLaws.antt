@@ -21,7 +21,7 @@ use Rattle.listing.specs.Listing.{Blank, isKept, keptBlocks}
 
 -- ---- tests on a range
 
-keep-same : (p q : ℕ → Bool) (k n : ℕ) → ((i : ℕ) → k ≤ i → i < k + n → p i ≡ q i) → keep p (numbersFrom k n) ≡ keep q (numbersFrom k n)
+pub keep-same : (p q : ℕ → Bool) (k n : ℕ) → ((i : ℕ) → k ≤ i → i < k + n → p i ≡ q i) → keep p (numbersFrom k n) ≡ keep q (numbersFrom k n)
 keep-same p q k zero h = refl
 keep-same p q k (suc n) h =
     rw (h k (omega arith) (omega arith), keep-same p q (suc k) n (λ i a b. h i (omega arith) (omega arith)))

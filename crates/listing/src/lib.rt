@@ -11,7 +11,8 @@ use partition::blocks::part_from;
 use partition::blocks::right_checksum;
 use words::word;
 ghost use mathlib.Core.Path.{_≡_};
-ghost use Prim.Native.Nat.{_-_, _≤_, _<_};
+ghost use mathlib.Core.Bool.{true, false};
+ghost use Prim.Native.Nat.{_+_, _-_, _≤_, _<_};
 ghost use lib.ListN.{length, take, drop, set};
 ghost use Rattle.flash_model.specs.Measures.{capacity};
 ghost use Rattle.flash_model.specs.UserBlock.{number};
@@ -19,6 +20,7 @@ ghost use Rattle.flash_model.specs.Partition.{live, lowestLive};
 ghost use Rattle.partition.specs.Usable.{Usable};
 ghost use Rattle.listing.specs.Listing.{isNew, mark, keptBlocks, asNext};
 ghost use Rattle.listing.specs.Best.{LeftOut};
+ghost use Rattle.listing.specs.Passing.{PassAt, StopsAt, leftAndListed};
 
 // A logical number, or none.
 pub enum Next {
@@ -51,6 +53,49 @@ fn enter(part: &[u8], area: &mut [u8]) -> usize
     mark as usize
 }
 
+// Where a pass stands: the blocks up to `at` are still to come, and so many numbers were entered.
+struct Pass {
+    at: usize,
+    count: usize,
+}
+
+// Enters blocks from `from` downwards as long as they are new, and counts the numbers. Blocks go by such runs, since the compiler
+// puts the checksum into this loop, which then stands in another one, and not into a single loop over all blocks.
+fn count_run(image: &[u8], m: Measures, end: usize, area: &mut [u8], from: usize) -> Pass
+    requires { ⌜ PassAt (now area) (now image) (m .size) end from ⌝ }
+    ensures { λ r. ⌜ StopsAt false (now (area .exit)) (now (image .entry)) (m .size) end from (r .at) ⌝ }
+    ensures { λ r. ⌜ r .count + r .at ≤ from ⌝ }
+    ensures { λ r. ⌜ r .count + length (keptBlocks (now (area .exit)) (now (image .entry)) (r .at)) ≡ length (keptBlocks (now (area .entry)) (now (image .entry)) from) ⌝ }
+{
+    let mut count: usize = 0;
+    let mut k = from;
+    while 0 < k {
+        let part = part_from(image, m, k);
+        if !is_new(part, end, &area[..]) {
+            return Pass { at: k, count };
+        }
+        count += enter(part, area);
+        k -= 1;
+    }
+    Pass { at: 0, count }
+}
+
+// Passes over blocks from `from` downwards as long as they are not new: a short loop, with no checksum in it.
+fn pass_known(image: &[u8], m: Measures, end: usize, area: &[u8], from: usize) -> usize
+    requires { ⌜ PassAt (now area) (now image) (m .size) end from ⌝ }
+    ensures { λ r. ⌜ StopsAt true (now (area .entry)) (now (image .entry)) (m .size) end from r ⌝ }
+    ensures { λ r. ⌜ keptBlocks (now (area .entry)) (now (image .entry)) r ≡ keptBlocks (now (area .entry)) (now (image .entry)) from ⌝ }
+{
+    let mut k = from;
+    while 0 < k {
+        if is_new(part_from(image, m, k), end, area) {
+            return k;
+        }
+        k -= 1;
+    }
+    0
+}
+
 // How many numbers have contents. Blocks go in falling order, so the first of a number that has a right checksum is the one, and
 // no checksum is worked for an older copy.
 pub fn count_live(image: &[u8], m: Measures, used: usize) -> usize
@@ -62,18 +107,48 @@ pub fn count_live(image: &[u8], m: Measures, used: usize) -> usize
     let mut count: usize = 0;
     let mut k = used;
     while 0 < k {
-        let part = part_from(image, m, k);
-        if is_new(part, end, &area) {
-            count += enter(part, &mut area);
-        }
-        k -= 1;
+        let run = count_run(image, m, end, &mut area, k);
+        count += run.count;
+        k = pass_known(image, m, end, &area, run.at);
     }
     count
 }
 
+// Enters a run of blocks as `count_run` does, and lists them. Each block that may be entered is stored in front of the list, and
+// the list begins with it where it is entered: the store has no branch either. It comes behind the checksum; in front of it the
+// pass took longer.
+fn list_run(
+    image: &[u8],
+    m: Measures,
+    end: usize,
+    area: &mut [u8],
+    kept: &mut [u16],
+    listed: usize,
+    from: usize,
+) -> Pass
+    requires { ⌜ PassAt (now area) (now image) (m .size) end from ⌝ }
+    requires { ⌜ listed + from ≤ length (now kept) ⌝ }
+    ensures { λ r. ⌜ StopsAt false (now (area .exit)) (now (image .entry)) (m .size) end from (r .at) ⌝ }
+    ensures { λ r. ⌜ r .count + r .at ≤ listed + from ⌝ }
+    ensures { λ r. ⌜ leftAndListed (now (area .exit)) (now (image .entry)) (r .at) (r .count) (now (kept .exit)) ≡ leftAndListed (now (area .entry)) (now (image .entry)) from listed (now (kept .entry)) ⌝ }
+{
+    let mut count = listed;
+    let mut k = from;
+    while 0 < k {
+        let part = part_from(image, m, k);
+        if !is_new(part, end, &area[..]) {
+            return Pass { at: k, count };
+        }
+        let entered = enter(part, area);
+        kept[kept.len() - count - 1] = k as u16;
+        count += entered;
+        k -= 1;
+    }
+    Pass { at: 0, count }
+}
+
 // Lists at the end of `kept`, rising, the physical block of the contents of each number that the area has no mark for, and counts
-// these. Each block that may be entered is stored in front of the list, and the list begins with it where it is entered: the
-// store has no branch either. It comes behind the checksum; in front of it the pass took longer.
+// these.
 pub fn list_kept(image: &[u8], m: Measures, used: usize, area: &mut [u8], kept: &mut [u16]) -> usize
     requires { ⌜ Usable (now image) (m .size) used ⌝ }
     requires { ⌜ (capacity (m .size) ≤ length (now area)) × (capacity (m .size) ≤ length (now kept)) ⌝ }
@@ -84,13 +159,9 @@ pub fn list_kept(image: &[u8], m: Measures, used: usize, area: &mut [u8], kept: 
     let mut count: usize = 0;
     let mut k = used;
     while 0 < k {
-        let part = part_from(image, m, k);
-        if is_new(part, end, &area[..]) {
-            let entered = enter(part, area);
-            kept[kept.len() - count - 1] = k as u16;
-            count += entered;
-        }
-        k -= 1;
+        let run = list_run(image, m, end, area, kept, count, k);
+        count = run.count;
+        k = pass_known(image, m, end, &area[..], run.at);
     }
     count
 }
