@@ -1,9 +1,8 @@
 -- What a usable image tells its readers. Assumes nothing.
 use Prim.Native.Nat.{ℕ, _≤_}
 use mathlib.Core.Path.{_≡_, sym, ap, subst, _∙_}
-use mathlib.Core.Bool.{true, false, cond}
+use mathlib.Core.Bool.{true}
 use mathlib.Core.List.{List}
-use mathlib.Core.Option.{none}
 use native.Mathlib.Omega.{arith}
 use Rattle.words.specs.Search.{highest}
 use Rattle.flash_model.specs.Measures.{legalSize, legalNumber, capacity}
@@ -27,13 +26,7 @@ module _ (image : List ℕ) (size count : ℕ) (u : Usable image size count) whe
   pub count-most : count ≤ capacity size
   count-most = omega (arith, u .used-is, used-most image, ap capacity (u .has-size))
 
-  holder-count : (n : ℕ) → holder image n ≡ cond (legalNumber size n) (highest (λ k. matches n (blockAt image k)) count) none
-  holder-count n =
-      holder-used image n (used image) (used-most image) (allocated-used image (u .is-sound))
-      ∙ rw (sym (u .used-is), u .has-size)
-
-  pub holder-none : (n : ℕ) → legalNumber size n ≡ false → holder image n ≡ none
-  holder-none n e = holder-count n ∙ rw e
-
   pub holder-some : (n : ℕ) → legalNumber size n ≡ true → holder image n ≡ highest (λ k. matches n (blockAt image k)) count
-  holder-some n e = holder-count n ∙ rw e
+  holder-some n e =
+      holder-used image n (used image) (used-most image) (allocated-used image (u .is-sound))
+      ∙ rw (sym (u .used-is), u .has-size, e)
