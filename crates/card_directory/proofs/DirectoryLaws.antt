@@ -1,30 +1,37 @@
 -- Parts of a card, what a search answered, and rules 26 and 29 of an entry. Assumes nothing.
 use Prim.Native.Nat.{ℕ, _+_, _-_, _*_, _/_, _%_, _<_}
-use mathlib.Core.Path.{_≡_, refl, ap, _∙_}
-use mathlib.Core.Bool.{true, false}
+use mathlib.Core.Path.{_≡_, refl, sym, ap, _∙_}
+use mathlib.Core.Bool.{true, false, not}
 use mathlib.Core.List.{List}
 use mathlib.Core.Option.{Option, none, some}
 use native.Mathlib.Omega.{arith}
 use native.Mathlib.Nat.{add-sub-cancel-left}
-use lib.ListN.{take, drop}
+use lib.Bits.{bitXor}
+use lib.Dec.{eqb}
+use lib.ListN.{length, take, drop}
+use mir.Syntax.{Width}
+use mir.Val.{Fits}
+use borrow.Author.Tests.{eqb-true, not-false}
 use Rattle.words.specs.Lists.{isSome}
 use Rattle.words.specs.Search.{lowest}
+use Rattle.words.proofs.JoinLaws.{none-range}
 use Rattle.words.proofs.SearchLaws.{any-lowest}
-use Rattle.card_model.specs.Layout.{entryBlock, entryByte, entryPlace}
+use Rattle.card_model.specs.Layout.{entryPlace, directoryOf}
 use Rattle.card_model.specs.Entries.{nameOf, isUsed, wrongEntry, entryAt, isNamed, nameTaken}
+use Rattle.card_model.proofs.EntryLaws.{entry-is, entry-length}
 use Rattle.card_directory.specs.declared.search.FoundEntry.the-variants.{At, Nothing}
 use Rattle.card_directory.specs.Found.{asFound}
 
-pub part-32 : (card : List ℕ) (at : ℕ) → take (at + 32 - at) (drop at card) ≡ take 32 (drop at card)
-part-32 card at = ap (λ (n : ℕ). take n (drop at card)) (add-sub-cancel-left at 32)
+-- an entry's bytes as the part that a function takes out, whose place its fitting names
+pub entry-part : (card : List ℕ) (i : ℕ) {w : Width} {at : ℕ} → Fits w at → length card ≡ 131072 → i < 208 → entryPlace i ≡ at
+    → (take (at + 32 - at) (drop at card) ≡ entryAt (directoryOf card) i) × (length (take (at + 32 - at) (drop at card)) ≡ 32)
+entry-part card i {at = at} fits long b e =
+    let part = ap (λ (n : ℕ). take n (drop at card)) (add-sub-cancel-left at 32) ∙ ap (λ (p : ℕ). take 32 (drop p card)) (sym e) ∙ sym (entry-is card i b) in
+    (part, ap length part ∙ entry-length card i long b)
 
--- where entry k of the directory's block n is
-pub place-in : (n k : ℕ) → k < 16 → entryPlace (16 * n + k) ≡ (253 - n) * 512 + 32 * k
-unfolding entryPlace entryBlock entryByte
-place-in n k h =
-    let a : (16 * n + k) / 16 ≡ n = omega arith in
-    let b : (16 * n + k) % 16 ≡ k = omega arith in
-    rw (a, b)
+-- an entry's number with its high four bits flipped, tested for each of them
+pub flipped : (i : ℕ) → i < 208 → bitXor i 240 ≡ (15 - i / 16) * 16 + i % 16
+flipped i h = eqb-true _ _ (not-false _ (none-range (λ j. not (eqb (bitXor j 240) ((15 - j / 16) * 16 + j % 16))) 0 208 refl i (omega arith) h))
 
 pub unused-right : (directory : List (List ℕ)) (i : ℕ) → isUsed (entryAt directory i) ≡ false → wrongEntry (entryAt directory i) ≡ false
 unfolding wrongEntry

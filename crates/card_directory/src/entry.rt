@@ -16,12 +16,15 @@ pub(crate) fn entry_in(card: &[u8], n: usize, k: usize) -> &[u8]
     &card[at..end]
 }
 
-// The bytes of entry i.
+// The bytes of entry i. The blocks go down from 253: to flip the high four bits of the entry's number counts them from the other
+// end.
 pub fn entry_at(card: &[u8], i: usize) -> &[u8]
     requires { ⌜ (length (now card) ≡ 131072) × (i < 208) ⌝ }
     ensures { λ r. ⌜ (now r ≡ model.entryAt (directoryOf (now (card .entry))) i) × (length (now r) ≡ 32) ⌝ }
 {
-    entry_in(card, i / 16, i % 16)
+    let at = (i ^ 240) * 32 + 121856;
+    let end = at + 32;
+    &card[at..end]
 }
 
 pub fn is_used(entry: &[u8]) -> bool

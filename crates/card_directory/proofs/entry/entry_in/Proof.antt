@@ -1,10 +1,8 @@
 -- `entry_in` meets its contract. Assumes nothing.
-use Prim.Native.Nat.{ℕ, _+_, _-_, _*_, _<_}
-use mathlib.Core.Path.{sym, ap, _∙_}
+use Prim.Native.Nat.{_+_, _*_}
 use native.Mathlib.Omega.{arith}
-use lib.ListN.{length, take, drop}
-use Rattle.card_model.proofs.EntryLaws.{entry-is, entry-length}
-use Rattle.card_directory.proofs.DirectoryLaws.{part-32, place-in}
+use Rattle.card_model.specs.Layout.{entryBlock, entryByte, entryPlace}
+use Rattle.card_directory.proofs.DirectoryLaws.{entry-part}
 use borrow.Author.Needs.{needs}
 use Rattle.card_directory.proofs.entry.entry_in.Statement.{statement}
 use Rattle.card_directory.proofs.entry.entry_in.Tie as tie
@@ -34,15 +32,12 @@ part-result-end : tie.Need-part-result-end
 part-result-end c = search needs
 
 returns : tie.Need-returns
+unfolding entryPlace entryBlock entryByte
 returns c =
     let a = c .before in
-    let card = a .args .card .now in
     let n = a .args .n in
     let k = a .args .k in
-    let b : 16 * n + k < 208 = omega (arith, a .pre .1, a .pre .2) in
-    let at = (253 - n) * 512 + 32 * k in
-    let e = part-32 card at ∙ ap (λ (p : ℕ). take 32 (drop p card)) (sym (place-in n k (a .pre .2))) ∙ sym (entry-is card (16 * n + k) b) in
-    (e, ap length e ∙ entry-length card (16 * n + k) (a .pre .0) b)
+    entry-part (a .args .card .now) (16 * n + k) (add-at a) (a .pre .0) (omega (arith, a .pre .1, a .pre .2)) (omega (arith, a .pre .1, a .pre .2))
 
 pub entry-in-spec : {M : Type 1} → statement M
 entry-in-spec =
