@@ -84,7 +84,7 @@ fn judge_names(
     slots: &mut [u8; 2048],
     next: &mut [u8; 208],
 ) -> Verdict
-    requires { ⌜ (length (now card) ≡ 131072) × (now slots ≡ replicate 2048 0) × (length (now next) ≡ 208) ⌝ }
+    requires { ⌜ (length (now card) ≡ 131072) × (now slots ≡ replicate 2048 0) × (now next ≡ replicate 208 0) ⌝ }
     requires { ⌜ GoodChains (tableOf (now card)) (directoryOf (now card)) ⌝ }
     requires { ⌜ Listed (directoryOf (now card)) 208 (now used) count ⌝ }
     requires { ⌜ Holds Head (directoryOf (now card)) (now used) (now heads) count ⌝ }

@@ -8,7 +8,7 @@ use native.Mathlib.Omega.{arith}
 use native.Mathlib.Decide.{ℕ-discrete}
 use lib.Dec.{ltb}
 use lib.ListN.{length, getD, set, replicate, length-replicate, getD-replicate, length-set}
-use lib.Seq.{getD-set-same, getD-set-other}
+use lib.Seq.{getD-set-same, getD-set-other, set-getD}
 use borrow.Author.Tests.{ltb-true, ltb-false}
 use Rattle.words.specs.Words.{sameBytes}
 use Rattle.words.proofs.Bools.{and-true-left, and-true-right}
@@ -21,6 +21,21 @@ use Rattle.card_directory.specs.Listed.{reached, Listed}
 use Rattle.card_directory.proofs.DirectoryLaws.{unused-name, used-name}
 use Rattle.card_directory.proofs.ListedLaws.{listed-used, listed-index, listed-rises, listed-before}
 use Rattle.card_names.specs.Slots.{slotOf, nameAt, slotAt, LastOf, Chained, Slots}
+
+-- ---- nothing is stored from n on, so that 0 needs no store
+
+pub record NoneFrom (next : List ℕ) (n : ℕ) : Type 0 where
+  pub none-at : (k : ℕ) → n ≤ k → k < 208 → getD next k 0 ≡ 0
+
+pub none-start : NoneFrom (replicate 208 0) 0
+none-start = record { none-at = λ k a b. getD-replicate {A = ℕ} 208 k 0 0 b }
+
+module _ {next : List ℕ} {j : ℕ} (z : NoneFrom next j) (k : ℕ) where
+  pub none-next : NoneFrom (set next j k) (j + 1)
+  none-next = record { none-at = λ x a b. getD-set-other next j x k 0 (λ e. omega arith) ∙ z .none-at x (omega arith) b }
+
+  pub unstored : j < 208 → k ≡ 0 → next ≡ set next j k
+  unstored b e = sym (ap (set next j) (e ∙ sym (z .none-at j (omega arith) b)) ∙ set-getD next j 0)
 
 -- ---- names
 
@@ -51,15 +66,15 @@ module _ (directory : List (List ℕ)) (used : List ℕ) where
 
   -- ---- the table
 
-  module _ (next : List ℕ) where
-    pub slots-start : length next ≡ 208 → Slots directory used (replicate 2048 0) next 0
-    slots-start e = record {
-      slots-many = length-replicate {A = ℕ} 2048 0;
-      next-many = e;
-      chains = record { in-directory = λ j h. absurd (omega arith); back = λ j h. absurd (omega arith) };
-      last = λ s h. rw (getD-replicate {A = ℕ} 2048 s 0 0 h) (last-of-none refl);
-    }
+  pub slots-start : Slots directory used (replicate 2048 0) (replicate 208 0) 0
+  slots-start = record {
+    slots-many = length-replicate {A = ℕ} 2048 0;
+    next-many = length-replicate {A = ℕ} 208 0;
+    chains = record { in-directory = λ j h. absurd (omega arith); back = λ j h. absurd (omega arith) };
+    last = λ s h. rw (getD-replicate {A = ℕ} 2048 s 0 0 h) (last-of-none refl);
+  }
 
+  module _ (next : List ℕ) where
     pub chained-to : {k n : ℕ} → k ≤ n → Chained directory used next n → Chained directory used next k
     chained-to h c = record { in-directory = λ j b. c .in-directory j (omega arith); back = λ j b. c .back j (omega arith) }
 

@@ -85,7 +85,7 @@ fn find_same(card: &[u8], used: &[u8; 208], next: &[u8; 208], start: usize, i: u
 }
 
 // The refusal at the first entry whose name is taken, from the list of the used entries; where there is none, all names are in the
-// table.
+// table. What stands before a name in its slot is stored only where there is one: on some machines the loop waits for each store.
 pub fn name_row(
     card: &[u8],
     used: &[u8; 208],
@@ -93,7 +93,7 @@ pub fn name_row(
     slots: &mut [u8; 2048],
     next: &mut [u8; 208],
 ) -> Verdict
-    requires { ⌜ (length (now card) ≡ 131072) × (now slots ≡ replicate 2048 0) × (length (now next) ≡ 208) ⌝ }
+    requires { ⌜ (length (now card) ≡ 131072) × (now slots ≡ replicate 2048 0) × (now next ≡ replicate 208 0) ⌝ }
     requires { ⌜ Listed (directoryOf (now card)) 208 (now used) count ⌝ }
     ensures { λ r. ⌜ r ≡ nameRow (directoryOf (now (card .entry))) ⌝ }
     ensures { λ r. ⌜ (accepted r ≡ true → table.AllNames (directoryOf (now (card .entry))) (now (used .entry)) (now (slots .exit)) (now (next .exit))) ⌝ }
@@ -107,8 +107,8 @@ pub fn name_row(
             if find_same(card, used, next, wide(last), i) != 0 {
                 return refused_at(29, Place::Entry(i));
             }
+            next[j] = last;
         }
-        next[j] = last;
         slots[slot] = (j + 1) as u8;
         j += 1;
     }

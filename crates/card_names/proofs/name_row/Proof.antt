@@ -6,7 +6,7 @@ use mathlib.Core.Logic.{⊎-elim}
 use mathlib.Core.Bool.{false, false≢true}
 use mathlib.Core.List.{List}
 use native.Mathlib.Omega.{arith}
-use lib.ListN.{getD}
+use lib.ListN.{getD, set}
 use Rattle.verdicts.specs.declared.Place.the-variants.{Entry}
 use Rattle.verdicts.specs.Rows.{accepted, rowOver}
 use Rattle.card_model.specs.Layout.{directoryOf}
@@ -14,7 +14,7 @@ use Rattle.card_model.specs.Entries.{nameOf, entryAt, nameTaken, nameRow}
 use Rattle.card_directory.specs.Listed.{reached}
 use Rattle.card_directory.proofs.ListedLaws.{firstFrom, found-here, found-later, found-none, listed-below}
 use Rattle.card_names.specs.Slots.{slotOf, nameAt, slotAt, LastOf, Slots}
-use Rattle.card_names.proofs.NameLaws.{unused-free, last-of-none, slots-start, chained-to, slots-next, last-named, name-free, name-taken}
+use Rattle.card_names.proofs.NameLaws.{NoneFrom, none-start, none-next, unstored, unused-free, last-of-none, slots-start, chained-to, slots-next, last-named, name-free, name-taken}
 use borrow.Author.Needs.{needs}
 use Rattle.card_names.proofs.name_row.Statement.{statement}
 use Rattle.card_names.proofs.name_row.Tie as tie
@@ -22,7 +22,7 @@ use Rattle.card_names.proofs.name_row.Tie as tie
 abbrev Inv-loop : tie.InvT-loop
 Inv-loop card used count slots₀ next₀ j₀ slots next j =
     (j ≤ count) × Slots (directoryOf card) used slots next j
-    × (firstFrom (nameTaken (directoryOf card)) 0 ≡ firstFrom (nameTaken (directoryOf card)) (reached used j))
+    × (firstFrom (nameTaken (directoryOf card)) 0 ≡ firstFrom (nameTaken (directoryOf card)) (reached used j)) × NoneFrom next j
 
 abbrev μ-loop : tie.MeasureT-loop
 μ-loop card used count slots₀ next₀ j₀ slots next j = count - j
@@ -30,7 +30,7 @@ abbrev μ-loop : tie.MeasureT-loop
 loop-holds : tie.Need-loop-holds Inv-loop μ-loop
 loop-holds c =
     let a = c .before in
-    (omega arith, rw (a .pre .0 .1) (slots-start _ _ _ (a .pre .0 .2)), refl)
+    (omega arith, rw (a .pre .0 .1, a .pre .0 .2) (slots-start _ _), refl, rw (a .pre .0 .2) none-start)
 
 listed-at-requires : tie.Need-listed-at-requires Inv-loop μ-loop
 listed-at-requires c κs = search needs
@@ -135,13 +135,17 @@ loop-again c =
     → LastOf (nameAt directory used) (nameOf (entryAt directory (t .listed-at .result))) start r → r ≡ 0 → nameTaken directory (t .listed-at .result) ≡ false =
     λ start r x y. name-free _ _ (a .pre .1) j _ e h (last-named directory used x own y) in
     let q = ⊎-elim (λ w. free _ _ (subst (LastOf (slotAt directory used) _ j) (sym (w .2 .ensures .0)) o) (w .3 .ensures) (w .4 .left))
-    (λ w. free _ _ (subst (LastOf (slotAt directory used) _ j) (w .left) o) (last-of-none refl) refl)
+    (λ w. free _ _ (subst (LastOf (slotAt directory used) _ j) (w .0 .left) o) (last-of-none refl) refl)
     (c .if1 .came) in
+    let none = l .loop .inv .3 in
+    let stored : c .if1 .next ≡ set (l .loop .next) j (getD (l .loop .slots) (s .entry-slot .result) 0) =
+    ⊎-elim (λ w. w .5) (λ w. w .1 ∙ unstored none _ (omega (arith, a .pre .1 .fits)) (w .0 .left)) (c .if1 .came) in
     let below : getD used j 0 < 208 = listed-below (a .pre .1) j _ refl h in
     let slot = own ∙ ap (λ (i : ℕ). slotOf (nameOf (entryAt directory i))) e in (
       omega arith,
-      slots-next _ _ _ table (omega (arith, a .pre .1 .fits)) below slot (s .entry-slot .ensures .1) refl,
+      rw stored (slots-next _ _ _ table (omega (arith, a .pre .1 .fits)) below slot (s .entry-slot .ensures .1) refl),
       l .loop .inv .2 ∙ found-later _ (nameTaken directory) (unused-free _) (a .pre .1) j _ e h q,
+      rw stored (none-next none _),
     )
 
 done-requires : tie.Need-done-requires Inv-loop μ-loop
