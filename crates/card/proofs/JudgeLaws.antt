@@ -16,7 +16,7 @@ use Rattle.card_model.specs.Files.{chainRow, sharingRow, gameRow}
 use Rattle.card_model.specs.Calls.{lengthRow, tableRows, directoryRows, verdictOf}
 use Rattle.card_model.proofs.SoundLaws.{unless-accepts, at-accepts, below-accepts}
 use Rattle.card_games.specs.Rules.{GoodChains}
-use Rattle.card_chains.specs.Marks.{chainRows}
+use Rattle.card_chains.specs.Rows.{chainRows}
 use Rattle.card.specs.Parts.{fileRows, nameRows}
 
 passed : (r v : Verdict) → r ≡ v → r .number ≡ 0 → accepted v ≡ true

@@ -6,7 +6,7 @@ use Rattle.verdicts.specs.declared.Verdict.{Verdict}
 use Rattle.verdicts.specs.Rows.{unlessRefused}
 use Rattle.card_model.specs.Entries.{entryRow, nameRow}
 use Rattle.card_model.specs.Files.{gameRow}
-use Rattle.card_chains.specs.Marks.{chainRows}
+use Rattle.card_chains.specs.Rows.{chainRows}
 
 -- 26 to 28
 abbrev pub fileRows : List ℕ → List (List ℕ) → Verdict

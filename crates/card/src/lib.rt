@@ -32,7 +32,7 @@ ghost use Rattle.card_model.specs.Files.{filesBefore};
 ghost use Rattle.card_model.specs.Sound.{NoRowRefuses};
 ghost use Rattle.card_directory.specs.Fields.{Head};
 ghost use Rattle.card_directory.specs.Listed.{Listed, Holds};
-ghost use Rattle.card_chains.specs.Marks.{noMarks, Marking};
+ghost use Rattle.card_pieces.specs.Marks.{noMarks, MarkedFiles};
 ghost use Rattle.card_games.specs.Rules.{GoodChains};
 ghost use Rattle.card_names.specs.Slots.{AllNames};
 ghost use Rattle.card.specs.Parts.{fileRows, nameRows};
@@ -60,7 +60,7 @@ fn judge_chains(
     requires { ⌜ (length (now card) ≡ 131072) × (now marks ≡ noMarks) ⌝ }
     requires { ⌜ (length (now used) ≡ 208) × (length (now heads) ≡ 208) × (length (now tails) ≡ 208) ⌝ }
     ensures { λ r. ⌜ r .verdict ≡ fileRows (tableOf (now (card .entry))) (directoryOf (now (card .entry))) ⌝ }
-    ensures { λ r. ⌜ (accepted (r .verdict) ≡ true → Marking (filesBefore (tableOf (now (card .entry))) (directoryOf (now (card .entry))) 208) (now (marks .exit))) ⌝ }
+    ensures { λ r. ⌜ (accepted (r .verdict) ≡ true → MarkedFiles (tableOf (now (card .entry))) (filesBefore (tableOf (now (card .entry))) (directoryOf (now (card .entry))) 208) (now (marks .exit))) ⌝ }
     ensures { λ r. ⌜ Listed (directoryOf (now (card .entry))) 208 (now (used .exit)) (r .count) ⌝ }
     ensures { λ r. ⌜ Holds Head (directoryOf (now (card .entry))) (now (used .exit)) (now (heads .exit)) (r .count) ⌝ }
 {
@@ -102,7 +102,7 @@ fn judge_names(
 fn judge_files(card: &[u8], marks: &mut [u8; 200], used: &mut [u8; 208]) -> UsedEntries
     requires { ⌜ (length (now card) ≡ 131072) × (now marks ≡ noMarks) × (length (now used) ≡ 208) ⌝ }
     ensures { λ r. ⌜ r .verdict ≡ directoryRows (tableOf (now (card .entry))) (directoryOf (now (card .entry))) ⌝ }
-    ensures { λ r. ⌜ (accepted (r .verdict) ≡ true → Marking (filesBefore (tableOf (now (card .entry))) (directoryOf (now (card .entry))) 208) (now (marks .exit))) ⌝ }
+    ensures { λ r. ⌜ (accepted (r .verdict) ≡ true → MarkedFiles (tableOf (now (card .entry))) (filesBefore (tableOf (now (card .entry))) (directoryOf (now (card .entry))) 208) (now (marks .exit))) ⌝ }
     ensures { λ r. ⌜ Listed (directoryOf (now (card .entry))) 208 (now (used .exit)) (r .count) ⌝ }
 {
     let mut heads = [0u32; 208];

@@ -1,4 +1,4 @@
 pub mod LinkLaws
-pub mod WalkLaws
 pub mod MarkLaws
 pub mod FirstLaws
+pub mod FieldLaws

@@ -1,57 +1,26 @@
--- Laws of the marks: what one more mark makes of them, and what the walk along an entry's file makes of the marks of the files
--- before it. Assumes nothing.
+-- Laws of the marks: what the walk along an entry's file makes of the marks of the files before it. Assumes nothing.
 use Prim.Native.Nat.{ℕ, zero, suc, _+_, _-_, _≤_, _<_}
 use mathlib.Core.Path.{_≡_, refl, sym, ap, subst, _∙_}
-use mathlib.Core.Bool.{Bool, true, false, not, cond, _&&_, _||_, or-comm, or-true, false≢true, Bool·not-not}
+use mathlib.Core.Bool.{Bool, true, false, not, cond, _&&_, _||_, or-comm, and-true, false≢true}
 use mathlib.Core.List.{List, [], _∷_, append-nil}
 use mathlib.Core.Option.{Option, none, some}
 use native.Mathlib.Omega.{arith}
 use native.Mathlib.Numerals.{add-one}
 use lib.Dec.{eqb}
-use lib.ListN.{length, getD, set, replicate}
-use lib.Seq.{getD-set-same, getD-set-other}
-use borrow.Author.Tests.{eqb-true, eqb-false, eq-eqb, ne-eqb}
+use lib.ListN.{length, getD, replicate}
+use borrow.Author.Tests.{eq-eqb}
 use Rattle.words.specs.Lists.{keep, anyOf, has, isSome, numbersFrom}
-use Rattle.words.proofs.JoinLaws.{any-append}
+use Rattle.words.proofs.JoinLaws.{any-append, all-has}
+use Rattle.words.proofs.Distinct.{count, one, count-next}
 use Rattle.words.proofs.LoopLaws.{numbers-next, numbers-end}
-use Rattle.card_model.specs.declared.Link.{Link}
-use Rattle.card_model.specs.Table.{fatEntry, linkOf, linkAt, freeOrDamaged}
+use Rattle.card_model.specs.Table.{linkAt, freeOrDamaged}
 use Rattle.card_model.specs.Entries.{isUsed, entryAt}
-use Rattle.card_model.specs.Files.{chainOf, badChain, fileOf, filesBefore, sharesBlock, isOrphan, orphans}
+use Rattle.card_model.specs.Files.{chain, chainOf, badChain, fileOf, filesBefore, sharesBlock, isOrphan, orphans}
 use Rattle.card_model.proofs.EntryLaws.{file-chain, no-file, files-snoc}
-use Rattle.card_chains.specs.Marks.{noMarks, isMarked, Lengths, Marking, outcome, answer, Walked, isBroken, isShared}
-
--- ---- one more mark
-
-module _ (marks : List ℕ) (b v : ℕ) (h : b < length marks) where
-  pub marked-set : (v ≡ 0 → ⊥) → (x : ℕ) → isMarked (set marks b v) x ≡ (eqb b x || isMarked marks x)
-  unfolding isMarked
-  marked-set n x = go (eqb b x) refl
-    where
-      go : (t : Bool) → eqb b x ≡ t → not (eqb (getD (set marks b v) x 0) 0) ≡ (t || not (eqb (getD marks x 0) 0))
-      go true e =
-          let d : b ≡ x = eqb-true b x e in
-          rw (← d, getD-set-same marks b v 0 h, ne-eqb v 0 n)
-      go false e = rw (getD-set-other marks b x v 0 (λ d. eqb-false b x e (sym d)))
-
-  -- what holds of each marked block and its mark
-  pub set-each : (P : ℕ → ℕ → Type 0) → P b v → ((x : ℕ) → isMarked marks x ≡ true → P x (getD marks x 0))
-      → (x : ℕ) → isMarked (set marks b v) x ≡ true → P x (getD (set marks b v) x 0)
-  unfolding isMarked
-  set-each P new old x e = go (eqb b x) refl
-    where
-      go : (t : Bool) → eqb b x ≡ t → P x (getD (set marks b v) x 0)
-      go true d =
-          let q : b ≡ x = eqb-true b x d in
-          subst (λ (y : ℕ). P y (getD (set marks b v) y 0)) q (rw (getD-set-same marks b v 0 h) new)
-      go false d =
-          let q : getD (set marks b v) x 0 ≡ getD marks x 0 = getD-set-other marks b x v 0 (λ z. eqb-false b x d (sym z)) in
-          rw q (old x (rw q at e))
-
--- tests that agree on the list
-pub any-same : (p q : ℕ → Bool) (l : List ℕ) → ((x : ℕ) → has x l ≡ true → p x ≡ q x) → anyOf p l ≡ anyOf q l
-any-same p q [] a = refl
-any-same p q (y ∷ l) a = rw (a y (rw (eq-eqb y y refl)), any-same p q l (λ x e. a x (rw (e, or-true (eqb y x)))))
+use Rattle.card_model.proofs.ChainLaws.{chain-head, chain-used}
+use Rattle.card_pieces.specs.Marks.{noMarks, isMarked, Lengths, Marking, MarkedFiles, outcome, answer, Walked, isBroken, isShared}
+use Rattle.card_pieces.proofs.MarkLaws.{any-same}
+use Rattle.card_chains.specs.Counts.{isInUse, countTo}
 
 -- ---- the file of a used entry
 
@@ -144,15 +113,6 @@ module _ (table : List ℕ) (directory : List (List ℕ)) where
                 w .marked file there (sym shared ∙ apart) b ∙ ap (λ (t : Bool). has b file || t) (m .exactly b) ∙ or-comm (has b file) (has b before)
                 ∙ sym (any-append (λ x. eqb x b) before file) ∙ rw (add-one i, files-snoc table directory i)
 
-  -- ---- orphans
-
-  pub orphan-is : (b : ℕ) {marks : List ℕ} → Marking (filesBefore table directory 208) marks → (e : ℕ) → e ≡ fatEntry table b
-      → (l : Link) → l ≡ linkOf e → (unused : Bool) → unused ≡ freeOrDamaged l → isOrphan table directory b ≡ (not unused && eqb (getD marks b 0) 0)
-  unfolding isOrphan linkAt isMarked
-  orphan-is b {marks} m e q l p unused u =
-      let unmarked = ap not (sym (m .exactly b)) ∙ Bool·not-not (eqb (getD marks b 0) 0) in
-      rw (u, p, q, unmarked)
-
 -- ---- how many numbers from k on, below e, pass
 
 unfoldable pub countFrom : (ℕ → Bool) → ℕ → ℕ → ℕ
@@ -171,6 +131,40 @@ module _ (p : ℕ → Bool) (k e : ℕ) where
   unfolding countFrom
   count-end h = ap (λ (l : List ℕ). length (keep p l)) (numbers-end p k e h)
 
-pub count-orphans : (table : List ℕ) (directory : List (List ℕ)) → countFrom (isOrphan table directory) 0 200 ≡ orphans table directory
-unfolding countFrom orphans
-count-orphans table directory = refl
+pub count-all : (p : ℕ → Bool) → countFrom p 0 200 ≡ countTo p 200
+unfolding countFrom countTo
+count-all p = refl
+
+-- ---- orphans
+
+-- a marked block is in use
+in-use : {table marks : List ℕ} → Lengths table marks → (b : ℕ) → isMarked marks b ≡ true → isInUse table b ≡ true
+unfolding isInUse
+in-use {table} {marks} l b m = go (chain table (getD marks b 0) b) refl (l .each b m)
+  where
+    go : (o : Option (List ℕ)) → chain table (getD marks b 0) b ≡ o → isSome o ≡ true → not (freeOrDamaged (linkAt table b)) ≡ true
+    go none e s = absurd (false≢true s)
+    go (some bs) e s = rw (all-has (λ x. freeOrDamaged (linkAt table x) ≡ false) bs b (chain-used table _ b bs e) (rw (chain-head table _ b bs e, eq-eqb b b refl)))
+
+counts-add : (p q r : ℕ → Bool) → ((i : ℕ) → one (p i) + one (q i) ≡ one (r i)) → (k n : ℕ) → count p k n + count q k n ≡ count r k n
+counts-add p q r e k zero = refl
+counts-add p q r e k (suc n) = omega (arith, count-next p k n, count-next q k n, count-next r k n, counts-add p q r e (suc k) n, e k)
+
+orphans-left : (table : List ℕ) (directory : List (List ℕ)) {marks : List ℕ} → MarkedFiles table (filesBefore table directory 208) marks
+    → orphans table directory + countTo (isMarked marks) 200 ≡ countTo (isInUse table) 200
+unfolding orphans countTo isOrphan isInUse
+orphans-left table directory {marks} f = counts-add (isOrphan table directory) (isMarked marks) (isInUse table) each 0 200
+  where
+    each : (b : ℕ) → one (isOrphan table directory b) + one (isMarked marks b) ≡ one (isInUse table b)
+    each b = rw (← f .marking .exactly b) (go (isMarked marks b) refl)
+      where
+        go : (t : Bool) → isMarked marks b ≡ t → one (not (freeOrDamaged (linkAt table b)) && not t) + one t ≡ one (not (freeOrDamaged (linkAt table b)))
+        go true m = rw (in-use (f .lengths) b m)
+        go false m = rw (and-true (not (freeOrDamaged (linkAt table b)))) (omega arith)
+
+-- the two counts, and what is left
+pub orphans-are : (table : List ℕ) (directory : List (List ℕ)) {marks : List ℕ} {used marked : ℕ} → MarkedFiles table (filesBefore table directory 208) marks
+    → used ≡ countTo (isInUse table) 200 → marked ≡ countTo (isMarked marks) 200 → (marked ≤ used) × (used - marked ≡ orphans table directory)
+orphans-are table directory f u m =
+    let e = orphans-left table directory f in
+    (omega (arith, e, u, m), omega (arith, e, u, m))

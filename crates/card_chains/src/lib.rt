@@ -3,6 +3,7 @@
 mod links;
 pub mod walking;
 
+use crate::walking::APART;
 use crate::walking::BROKEN;
 use crate::walking::SHARED;
 use crate::walking::walk;
@@ -10,6 +11,8 @@ use card_directory::fields::first_in;
 use card_directory::fields::size_in;
 use card_directory::listing::fields_at;
 use card_directory::listing::listed_at;
+use card_pieces::pass_pieces;
+use card_pieces::take_one;
 use card_table::classify;
 use card_table::fat_entry;
 use card_table::free_or_damaged;
@@ -27,30 +30,35 @@ ghost use lib.ListN.{length, getD};
 ghost use Rattle.verdicts.specs.Rows.{accepted};
 ghost use Rattle.card_model.specs.Layout.{tableOf, directoryOf};
 ghost use Rattle.card_model.specs.Entries.{wrongEntry};
-ghost use Rattle.card_model.specs.Files.{chain, filesBefore, isOrphan, orphans};
+ghost use Rattle.card_model.specs.Files.{chain, filesBefore, orphans};
 ghost use Rattle.card_model.specs.Sound.{entryOn};
 ghost use Rattle.card_directory.specs.Fields.{firstIn, sizeIn};
 ghost use Rattle.card_directory.specs.Listed.{Listed, Gathered};
-ghost use Rattle.card_chains.specs.Marks.{noMarks, Lengths, Marking, chainRows, Walked};
+ghost use Rattle.card_pieces.specs.Marks.{noMarks, isMarked, Lengths, MarkedFiles, Walked};
+ghost use Rattle.card_chains.specs.Rows.{Passable, chainRows};
+ghost use Rattle.card_chains.specs.Counts.{isInUse, countTo};
 
-// The walk along the file of number j of the list.
+// The walk along the file of number j of the list. What lies in pieces is passed before it.
 fn walk_file(
+    card: &[u8],
     table: &[u16; 256],
     marks: &mut [u8; 200],
     heads: &[u32; 208],
     tails: &[u32; 208],
     j: usize,
 ) -> u8
-    requires { ⌜ (j < 208) × (firstIn (getD (now heads) j 0) < 200) × (sizeIn (getD (now tails) j 0) ≤ 200) ⌝ }
-    requires { ⌜ Lengths (now table) (now marks) ⌝ }
-    ensures { λ r. ⌜ Walked (now (table .entry)) (chain (now (table .entry)) (sizeIn (getD (now (tails .entry)) j 0)) (firstIn (getD (now (heads .entry)) j 0))) (now (marks .entry)) r (now (marks .exit)) ⌝ }
+    requires { ⌜ (length (now card) ≡ 131072) × (now table ≡ tableOf (now card)) × (j < 208) ⌝ }
+    requires { ⌜ Passable (getD (now heads) j 0) (getD (now tails) j 0) ⌝ }
+    requires { ⌜ Lengths (tableOf (now card)) (now marks) ⌝ }
+    ensures { λ r. ⌜ Walked (tableOf (now (card .entry))) (chain (tableOf (now (card .entry))) (sizeIn (getD (now (tails .entry)) j 0)) (firstIn (getD (now (heads .entry)) j 0))) (now (marks .entry)) r (now (marks .exit)) ⌝ }
 {
-    walk(
-        table,
-        marks,
-        first_in(fields_at(heads, j)),
-        size_in(fields_at(tails, j)),
-    )
+    let first = first_in(fields_at(heads, j));
+    let size = size_in(fields_at(tails, j));
+    if take_one(card, marks, first, size) {
+        return APART;
+    }
+    let rest = pass_pieces(card, marks, first, size);
+    walk(table, marks, rest.block, rest.left)
 }
 
 // The first entry that shares a block: the one remembered, or else this one. 208 is none.
@@ -78,7 +86,7 @@ pub fn walk_files(
     requires { ⌜ ((i : ℕ) → i < 208 → wrongEntry (entryOn (now card) i) ≡ false) ⌝ }
     requires { ⌜ Gathered (directoryOf (now card)) (now used) (now heads) (now tails) count ⌝ }
     ensures { λ r. ⌜ r ≡ chainRows (tableOf (now (card .entry))) (directoryOf (now (card .entry))) ⌝ }
-    ensures { λ r. ⌜ (accepted r ≡ true → Marking (filesBefore (tableOf (now (card .entry))) (directoryOf (now (card .entry))) 208) (now (marks .exit))) ⌝ }
+    ensures { λ r. ⌜ (accepted r ≡ true → MarkedFiles (tableOf (now (card .entry))) (filesBefore (tableOf (now (card .entry))) (directoryOf (now (card .entry))) 208) (now (marks .exit))) ⌝ }
 {
     if count == 0 {
         return done();
@@ -87,7 +95,7 @@ pub fn walk_files(
     let mut first: usize = 208;
     let mut j = 0;
     while j < count {
-        let found = walk_file(&table, marks, heads, tails, j);
+        let found = walk_file(card, &table, marks, heads, tails, j);
         if found == BROKEN {
             return refused_at(27, Place::Entry(listed_at(used, j)));
         }
@@ -102,31 +110,60 @@ pub fn walk_files(
     done()
 }
 
-// 1 for an orphan, else 0: a block that the table has in use and no file has marked. There is one test, of numbers that are read
-// in any case, so that the count is compiled to steps of several blocks.
-fn orphan_at(card: &[u8], marks: &[u8; 200], b: usize) -> u8
+// 1 for a block that the table has in use, else 0.
+fn one_if_used(card: &[u8], b: usize) -> u16
     requires { ⌜ (length (now card) ≡ 131072) × (b < 200) ⌝ }
-    requires { ⌜ Marking (filesBefore (tableOf (now card)) (directoryOf (now card)) 208) (now marks) ⌝ }
-    ensures { λ r. ⌜ (r ≡ cond (isOrphan (tableOf (now (card .entry))) (directoryOf (now (card .entry))) b) 1 0) × (r ≤ 1) ⌝ }
+    ensures { λ r. ⌜ (r ≡ cond (isInUse (tableOf (now (card .entry))) b) 1 0) × (r ≤ 1) ⌝ }
 {
-    let unused = free_or_damaged(classify(fat_entry(card, b)));
-    if !unused & (marks[b] == 0) {
-        return 1;
+    if free_or_damaged(classify(fat_entry(card, b))) {
+        return 0;
     }
-    0
+    1
 }
 
-// How many user blocks are in use but in no file.
-pub fn count_orphans(card: &[u8], marks: &[u8; 200]) -> usize
+// How many user blocks the table has in use. The count has as many bits as an entry, so that the loop is compiled to steps of eight.
+fn count_used(card: &[u8]) -> u16
     requires { ⌜ length (now card) ≡ 131072 ⌝ }
-    requires { ⌜ Marking (filesBefore (tableOf (now card)) (directoryOf (now card)) 208) (now marks) ⌝ }
-    ensures { λ r. ⌜ r ≡ orphans (tableOf (now (card .entry))) (directoryOf (now (card .entry))) ⌝ }
+    ensures { λ r. ⌜ r ≡ countTo (isInUse (tableOf (now (card .entry)))) 200 ⌝ }
+{
+    let mut count: u16 = 0;
+    let mut b = 0;
+    while b < 200 {
+        count += one_if_used(card, b);
+        b += 1;
+    }
+    count
+}
+
+// 1 for a marked block, else 0.
+fn one_if_marked(marks: &[u8; 200], b: usize) -> u8
+    requires { ⌜ b < 200 ⌝ }
+    ensures { λ r. ⌜ (r ≡ cond (isMarked (now (marks .entry)) b) 1 0) × (r ≤ 1) ⌝ }
+{
+    if marks[b] == 0 {
+        return 0;
+    }
+    1
+}
+
+// How many blocks are marked. The count has as many bits as a mark.
+fn count_marked(marks: &[u8; 200]) -> u8
+    ensures { λ r. ⌜ r ≡ countTo (isMarked (now (marks .entry))) 200 ⌝ }
 {
     let mut count: u8 = 0;
     let mut b = 0;
     while b < 200 {
-        count += orphan_at(card, marks, b);
+        count += one_if_marked(marks, b);
         b += 1;
     }
-    wide(count)
+    count
+}
+
+// How many user blocks are in use but in no file: those in use less those marked, each of which is in use.
+pub fn count_orphans(card: &[u8], marks: &[u8; 200]) -> usize
+    requires { ⌜ length (now card) ≡ 131072 ⌝ }
+    requires { ⌜ MarkedFiles (tableOf (now card)) (filesBefore (tableOf (now card)) (directoryOf (now card)) 208) (now marks) ⌝ }
+    ensures { λ r. ⌜ r ≡ orphans (tableOf (now (card .entry))) (directoryOf (now (card .entry))) ⌝ }
+{
+    count_used(card) as usize - wide(count_marked(marks))
 }

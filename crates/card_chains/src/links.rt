@@ -1,9 +1,7 @@
 // What an array of the table says of a block. The walks recurse over the array and not over the card: a slice has a length beside
 // its address and goes through memory at each call, and then the compiler doesn't make a loop of the recursion.
 ghost use mathlib.Core.Path.{_≡_};
-ghost use mathlib.Core.Bool.{_&&_};
-ghost use Prim.Native.Nat.{_+_, _<_};
-ghost use lib.Dec.{eqb, ltb};
+ghost use Prim.Native.Nat.{_<_};
 ghost use Rattle.card_model.specs.Table.{fatEntry};
 
 // An entry as a wider number: of a parameter the prover knows that it fits, of an element of a lent array it does not.
@@ -19,13 +17,4 @@ pub(crate) fn entry_in(table: &[u16; 256], b: usize) -> usize
     ensures { λ r. ⌜ (r ≡ fatEntry (now (table .entry)) b) × (r < 65536) ⌝ }
 {
     wide(table[b])
-}
-
-// Whether an entry names the block above. It is a test of the difference: where one number is known to be the other, the compiler
-// may take either, and the walks are to go on with the block's.
-pub(crate) fn is_above(e: usize, block: usize) -> bool
-    requires { ⌜ (e < 65536) × (block < 200) ⌝ }
-    ensures { λ r. ⌜ r ≡ (ltb e 200 && eqb e (block + 1)) ⌝ }
-{
-    (e < 200) & (e + 200 - block == 201)
 }

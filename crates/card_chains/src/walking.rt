@@ -1,10 +1,10 @@
-// Walks along a chain, with one fewer block left at each step. As a rule a block's neighbour follows it, the one below or in a game
-// the one above. A step to a neighbour goes on with its number and not with the entry, so that the next step, which the processor
-// begins before the entry is read, need not wait for it.
+// Walks along a chain, with one fewer block left at each step.
 use crate::links::entry_in;
-use crate::links::is_above;
 use card_model::Link;
+use card_pieces::block_on;
+use card_pieces::leads;
 use card_table::class_of;
+use card_table::fat_entry;
 use card_table::read_table;
 ghost use mathlib.Core.Path.{_≡_};
 ghost use mathlib.Core.Bool.{cond};
@@ -12,7 +12,7 @@ ghost use Prim.Native.Nat.{_≤_, _<_};
 ghost use lib.ListN.{length};
 ghost use Rattle.card_model.specs.Layout.{tableOf};
 ghost use Rattle.card_model.specs.Files.{chain};
-ghost use Rattle.card_chains.specs.Marks.{broken, Walkable, Walked, IsAfter};
+ghost use Rattle.card_pieces.specs.Marks.{broken, Walkable, Walked, IsAfter};
 
 // What the walk along a chain found: no marked block, one that was marked before, or a bad chain. These are plain numbers because
 // an enum would come back through memory, and then the compiler doesn't make a loop of the recursion.
@@ -51,12 +51,6 @@ pub(crate) fn walk(table: &[u16; 256], marks: &mut [u8; 200], block: usize, left
     }
     marks[block] = own;
     let e = entry_in(table, block);
-    if e + 1 == block {
-        return walk(table, marks, block - 1, left - 1);
-    }
-    if is_above(e, block) {
-        return walk(table, marks, block + 1, left - 1);
-    }
     match class_of(e) {
         Link::Last => ended(left == 1, APART),
         Link::Next(n) => walk(table, marks, n, left - 1),
@@ -76,12 +70,6 @@ fn follow(table: &[u16; 256], block: usize, left: usize) -> usize
         return block;
     }
     let e = entry_in(table, block);
-    if e + 1 == block {
-        return follow(table, block - 1, left - 1);
-    }
-    if is_above(e, block) {
-        return follow(table, block + 1, left - 1);
-    }
     match class_of(e) {
         Link::Next(n) => follow(table, n, left - 1),
         Link::Last => block,
@@ -91,14 +79,15 @@ fn follow(table: &[u16; 256], block: usize, left: usize) -> usize
     }
 }
 
-// The same over the card's table, which a file's first block doesn't need.
+// The same over the card's table. Steps that all go to neighbours, as most do, need no walk and no copy of the table.
 pub fn block_after(card: &[u8], block: usize, left: usize) -> usize
     requires { ⌜ (length (now card) ≡ 131072) × (block < 200) ⌝ }
     ensures { λ r. ⌜ IsAfter (tableOf (now (card .entry))) block left r ⌝ }
     ensures { λ r. ⌜ r < 200 ⌝ }
 {
-    if left == 0 {
-        return block;
+    let down = fat_entry(card, block) < block;
+    if leads(card, down, block, left) {
+        return block_on(down, block, left);
     }
     let table = read_table(card);
     follow(&table, block, left)

@@ -1,69 +1,46 @@
--- `count_orphans` meets its contract. The loop's invariant: the orphans counted and those still to come are all. Assumes nothing.
-use Prim.Native.Nat.{ℕ, _+_, _-_, _≤_}
-use mathlib.Core.Path.{_≡_}
-use mathlib.Core.Bool.{Bool}
-use mathlib.Core.List.{List}
-use native.Mathlib.Omega.{arith}
-use Rattle.card_model.specs.Layout.{tableOf, directoryOf}
-use Rattle.card_model.specs.Files.{isOrphan, orphans}
-use Rattle.card_chains.proofs.MarkLaws.{countFrom, count-step, count-end, count-orphans}
+-- `count_orphans` meets its contract. Assumes nothing.
+use mathlib.Core.Path.{_∙_}
+use Rattle.card_chains.proofs.MarkLaws.{orphans-are}
 use borrow.Author.Needs.{needs}
 use Rattle.card_chains.proofs.count_orphans.Statement.{statement}
 use Rattle.card_chains.proofs.count_orphans.Tie as tie
+use Rattle.card_chains.proofs.count_orphans.Reads as reads
+use Rattle.card_chains.proofs.count_orphans.Lts as lts
+use Rattle.card_chains.proofs.count_marked.Reads as count-marked-reads
+use Rattle.card_chains.proofs.count_used.Reads as count-used-reads
+use Rattle.words.proofs.wide.Reads as wide-reads
 
-abbrev orphan : List ℕ → ℕ → Bool
-orphan card = isOrphan (tableOf card) (directoryOf card)
+count-used-requires : tie.Need-count-used-requires
+count-used-requires c κs = search needs
 
-abbrev Inv-loop : tie.InvT-loop
-Inv-loop card marks count₀ b₀ count b = (b ≤ 200) × (count ≤ b) × (count + countFrom (orphan card) b 200 ≡ orphans (tableOf card) (directoryOf card))
+cast-result : tie.Need-cast-result
+cast-result c = search needs
 
-abbrev μ-loop : tie.MeasureT-loop
-μ-loop card marks count₀ b₀ count b = 200 - b
+count-marked-requires : tie.Need-count-marked-requires
+count-marked-requires c κs = search needs
 
-loop-holds : tie.Need-loop-holds Inv-loop μ-loop
-loop-holds c =
-    let card = c .before .args .card .now in
-    (search needs, search needs, omega (arith, count-orphans (tableOf card) (directoryOf card)))
-
-orphan-at-requires : tie.Need-orphan-at-requires Inv-loop μ-loop
-orphan-at-requires c κs = search needs
-
-add-count : tie.Need-add-count Inv-loop μ-loop
-add-count c = search needs
-
-add-b : tie.Need-add-b Inv-loop μ-loop
-add-b c = search needs
-
-loop-less : tie.Need-loop-less Inv-loop μ-loop
-loop-less c = search needs
-
-loop-again : tie.Need-loop-again Inv-loop μ-loop
-loop-again c =
-    let l = c .before .before in
-    let card = l .before .before .args .card .now in
-    let step = count-step (orphan card) (l .loop .b) 200 (omega arith) in
-    (omega arith, omega arith, omega (arith, step, c .orphan-at .ensures .0, l .loop .inv .2))
-
-wide-requires : tie.Need-wide-requires Inv-loop μ-loop
+wide-requires : tie.Need-wide-requires
 wide-requires c κs = search needs
 
-returns : tie.Need-returns Inv-loop μ-loop
+sub-result : tie.Need-sub-result
+sub-result c =
+    let m = c .before in
+    let u = m .before in
+    orphans-are _ _ (u .before .before .pre .1) (u .count-used .ensures) (c .wide .ensures .0 ∙ m .count-marked .ensures) .0
+
+returns : tie.Need-returns
 returns c =
-    let l = c .before .before in
-    let card = l .before .before .args .card .now in
-    omega (arith, c .wide .ensures .0, l .loop .inv .2, count-end (orphan card) (l .loop .b) 200 (omega arith))
+    let m = c .before in
+    let u = m .before in
+    orphans-are _ _ (u .before .before .pre .1) (u .count-used .ensures) (c .wide .ensures .0 ∙ m .count-marked .ensures) .1
 
 pub count-orphans-spec : {M : Type 1} → statement M
 count-orphans-spec =
     tie.close
     (tie.spec
-    Inv-loop
-    μ-loop
-    loop-holds
-    orphan-at-requires
-    add-count
-    add-b
-    loop-less
-    loop-again
+    count-used-requires
+    cast-result
+    count-marked-requires
     wide-requires
+    sub-result
     returns)

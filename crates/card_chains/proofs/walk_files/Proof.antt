@@ -17,10 +17,11 @@ use Rattle.card_model.specs.Entries.{entryAt}
 use Rattle.card_model.specs.Files.{badChain, chainRow, filesBefore, sharesBlock, sharingRow}
 use Rattle.card_directory.specs.Listed.{reached, Listed}
 use Rattle.card_directory.proofs.ListedLaws.{reached-next, listed-below, listed-used, holds-at, stays, stays-to-end, firstFrom, found-here, found-later, found-none}
-use Rattle.card_chains.specs.Marks.{Lengths, Marking, chainRows, isShared}
+use Rattle.card_pieces.specs.Marks.{Lengths, Marking, isShared}
+use Rattle.card_chains.specs.Rows.{chainRows}
 use Rattle.card_chains.proofs.MarkLaws.{lengths-start, marking-start, files-stay, unused-bad, unused-shares, walk-broken, walk-lengths, walk-shares, walk-marking}
 use Rattle.card_chains.proofs.FirstLaws.{orEnd, firstBefore, before-same, first-next, still-none, first-some, first-none}
-use Rattle.card_chains.proofs.WalkLaws.{fields-walkable, fields-walked}
+use Rattle.card_chains.proofs.FieldLaws.{fields-passable, fields-walked}
 use borrow.Author.Needs.{needs}
 use borrow.Author.Tests.{eq-eqb, ne-eqb}
 use Rattle.card_chains.proofs.walk_files.Statement.{statement}
@@ -98,7 +99,7 @@ returns c =
     let list = a .pre .1 .0 in
     let z : 0 ≡ a .args .count = sym (d .if1 .taken) in
     let free = first-none (shares card) _ _ (first-of-all card list 0 z (start card)) (omega arith) in
-    (c .done .ensures ∙ neither-refused card (none-bad card list 0 z refl) free, λ e. all-marked card list 0 z (rw (a .pre .0 .1) (marking-start _ _)))
+    (c .done .ensures ∙ neither-refused card (none-bad card list 0 z refl) free, λ e. rw (a .pre .0 .1) (record { lengths = lengths-start _; marking = all-marked card list 0 z (marking-start _ _) }))
 
 read-table-requires : tie.Need-read-table-requires Inv-loop μ-loop
 read-table-requires c κs = search needs
@@ -117,8 +118,8 @@ walk-file-requires c κs =
     let h : j < a .args .count = omega arith in
     let fields = a .pre .1 .1 .1 in
     let right = a .pre .1 .1 .0 _ (listed-below list j _ refl h) in
-    let w = fields-walkable (holds-at (fields .in-heads) j _ refl h) (holds-at (fields .in-tails) j _ refl h) (listed-used list j _ refl h) right in
-    ((omega (arith, list .fits), w .0, w .1), rw (l .before .read-table .ensures) (l .loop .inv .1))
+    let w = fields-passable (holds-at (fields .in-heads) j _ refl h) (holds-at (fields .in-tails) j _ refl h) (listed-used list j _ refl h) right in
+    ((a .pre .0 .0, l .before .read-table .ensures, omega (arith, list .fits)), (w, l .loop .inv .1))
 
 listed-at-requires : tie.Need-listed-at-requires Inv-loop μ-loop
 listed-at-requires c κs =
@@ -143,7 +144,7 @@ returns-2 c =
     let e = n .listed-at .ensures in
     let h : j < a .args .count = omega arith in
     let fields = a .pre .1 .1 .1 in
-    let walked = fields-walked (holds-at (fields .in-heads) j _ e h) (holds-at (fields .in-tails) j _ e h) (rw (r .read-table .ensures) at (w .walk-file .ensures)) in
+    let walked = fields-walked (holds-at (fields .in-heads) j _ e h) (holds-at (fields .in-tails) j _ e h) (w .walk-file .ensures) in
     let b = sym (walk-broken _ _ _ (listed-used list j _ e h) walked) ∙ eq-eqb _ _ (d .if2 .taken) in
     (v ∙ chain-refused card _ (l .loop .inv .2 ∙ found-here _ (bad card) (unused-bad _ _) list j _ e h b), λ e. absurd (false≢true (sym (ap accepted v) ∙ e)))
 
@@ -175,7 +176,7 @@ loop-again c =
     let b = listed-below list j _ refl h in
     let u = listed-used list j _ refl h in
     let fields = a .pre .1 .1 .1 in
-    let walked = fields-walked (holds-at (fields .in-heads) j _ refl h) (holds-at (fields .in-tails) j _ refl h) (rw (r .read-table .ensures) at (w .walk-file .ensures)) in
+    let walked = fields-walked (holds-at (fields .in-heads) j _ refl h) (holds-at (fields .in-tails) j _ refl h) (w .walk-file .ensures) in
     let same = stays _ (files card) (files-stay _ _) list j _ refl h in
     let m = rw same at (l .loop .inv .4) in
     let sound = ne-eqb _ _ (c .before .if2 .left) in
@@ -224,7 +225,7 @@ returns-4 c =
     let z : j ≡ a .args .count = omega arith in
     let first = first-of-all card list j z (l .loop .inv .3) in
     let sound = none-bad card list j z (l .loop .inv .2) in
-    (c .done2 .ensures ∙ neither-refused card sound (first-none (shares card) _ _ first (omega arith)), λ e. all-marked card list j z (l .loop .inv .4 (omega arith)))
+    (c .done2 .ensures ∙ neither-refused card sound (first-none (shares card) _ _ first (omega arith)), λ e. record { lengths = l .loop .inv .1; marking = all-marked card list j z (l .loop .inv .4 (omega arith)) })
 
 pub walk-files-spec : {M : Type 1} → statement M
 walk-files-spec =

@@ -3,8 +3,8 @@ use Prim.Native.Nat.{ℕ, _<_}
 use mathlib.Core.Path.{refl, sym, _∙_}
 use native.Mathlib.Omega.{arith}
 use Rattle.card_model.specs.Files.{chainStep}
-use Rattle.card_chains.proofs.LinkLaws.{link-read, names-below, names-above}
-use Rattle.card_chains.proofs.WalkLaws.{chain-none, chain-step, walked-broken, walked-met, walked-last, next-asked, walked-next}
+use Rattle.card_chains.proofs.LinkLaws.{link-read}
+use Rattle.card_pieces.proofs.WalkLaws.{chain-none, chain-step, walked-broken, walked-met, walked-last, next-asked, walked-next}
 use borrow.Author.Needs.{needs}
 use borrow.Fn.Kinds.{In}
 use borrow.Fn.PlainCycle.{Measures, is, falls, and}
@@ -13,7 +13,6 @@ use Rattle.card_chains.proofs.walking.walk.Kinds as walk-kinds
 use Rattle.card_chains.proofs.walking.+walk.Lts-walk as walk-lts
 use Rattle.card_chains.proofs.walking.ended.Reads as ended-reads
 use Rattle.card_chains.proofs.links.entry_in.Reads as entry-in-reads
-use Rattle.card_chains.proofs.links.is_above.Reads as is-above-reads
 use Rattle.card_table.proofs.class_of.Reads as class-of-reads
 use Rattle.card_chains.proofs.walking.+walk.{statement}
 use Rattle.card_chains.proofs.walking.+walk.Tie.{close}
@@ -33,12 +32,10 @@ calls t = (
   ended-reads.Learnt,
   entry-in-reads.Asked,
   entry-in-reads.Learnt,
-  walk-below t,
-  walk.Post,
-  is-above-reads.Asked,
-  is-above-reads.Learnt,
   class-of-reads.Asked,
   class-of-reads.Learnt,
+  walk-below t,
+  walk.Post,
 )
 
 module _ (t : ℕ) where
@@ -64,58 +61,6 @@ module _ (t : ℕ) where
   entry-in-requires : walk-lts.Need-entry-in-requires (calls t) (walk-at t) walk.Post
   entry-in-requires c κs = search needs
 
-  add-if3 : walk-lts.Need-add-if3 (calls t) (walk-at t) walk.Post
-  add-if3 c = search needs
-
-  sub-walk : walk-lts.Need-sub-walk (calls t) (walk-at t) walk.Post
-  sub-walk c = search needs
-
-  sub-walk-2 : walk-lts.Need-sub-walk-2 (calls t) (walk-at t) walk.Post
-  sub-walk-2 c = search needs
-
-  walk-requires : walk-lts.Need-walk-requires (calls t) (walk-at t) walk.Post
-  walk-requires c κs =
-      let l = c .before .before in
-      let d = l .before .before .before in
-      let s = d .before in
-      let told = names-below _ _ (l .entry-in .ensures .0) (c .before .if3 .taken) (s .pre .1 .0 .0) in
-      (omega arith, next-asked _ _ _ _ (s .pre .1 .1) (d .if1 .left) (s .pre .1 .0 .0) (l .before .if2 .left) _ told (s .pre .1 .0 .1))
-
-  returns-3 : walk-lts.Need-returns-3 (calls t) (walk-at t) walk.Post
-  returns-3 c =
-      let l = c .before .before .before in
-      let d = l .before .before .before in
-      let s = d .before in
-      let told = names-below _ _ (l .entry-in .ensures .0) (c .before .before .if3 .taken) (s .pre .1 .0 .0) in
-      walked-next _ _ _ _ (s .pre .1 .1) (d .if1 .left) (s .pre .1 .0 .0) (l .before .if2 .left) _ told (c .walk .ensures)
-
-  is-above-requires : walk-lts.Need-is-above-requires (calls t) (walk-at t) walk.Post
-  is-above-requires c κs = search needs
-
-  add-walk : walk-lts.Need-add-walk (calls t) (walk-at t) walk.Post
-  add-walk c = search needs
-
-  sub-walk-3 : walk-lts.Need-sub-walk-3 (calls t) (walk-at t) walk.Post
-  sub-walk-3 c = search needs
-
-  walk-requires-2 : walk-lts.Need-walk-requires-2 (calls t) (walk-at t) walk.Post
-  walk-requires-2 c κs =
-      let g = c .before in
-      let l = g .before .before .before in
-      let d = l .before .before .before in
-      let s = d .before in
-      let told = names-above _ _ (l .entry-in .ensures .0) (sym (g .before .is-above .ensures) ∙ g .if4 .taken) in
-      (omega arith, next-asked _ _ _ _ (s .pre .1 .1) (d .if1 .left) (s .pre .1 .0 .0) (l .before .if2 .left) _ told (s .pre .1 .0 .1))
-
-  returns-4 : walk-lts.Need-returns-4 (calls t) (walk-at t) walk.Post
-  returns-4 c =
-      let g = c .before .before in
-      let l = g .before .before .before in
-      let d = l .before .before .before in
-      let s = d .before in
-      let told = names-above _ _ (l .entry-in .ensures .0) (sym (g .before .is-above .ensures) ∙ g .if4 .taken) in
-      walked-next _ _ _ _ (s .pre .1 .1) (d .if1 .left) (s .pre .1 .0 .0) (l .before .if2 .left) _ told (c .walk2 .ensures)
-
   class-of-requires : walk-lts.Need-class-of-requires (calls t) (walk-at t) walk.Post
   class-of-requires c κs = search needs
 
@@ -128,14 +73,14 @@ module _ (t : ℕ) where
   enum-known-n : walk-lts.Need-enum-known-n (calls t) (walk-at t) walk.Post
   enum-known-n c = search needs
 
-  sub-walk-4 : walk-lts.Need-sub-walk-4 (calls t) (walk-at t) walk.Post
-  sub-walk-4 c = search needs
+  sub-walk : walk-lts.Need-sub-walk (calls t) (walk-at t) walk.Post
+  sub-walk c = search needs
 
-  walk-requires-3 : walk-lts.Need-walk-requires-3 (calls t) (walk-at t) walk.Post
-  walk-requires-3 c κs =
+  walk-requires : walk-lts.Need-walk-requires (calls t) (walk-at t) walk.Post
+  walk-requires c κs =
       let n = c .before .before in
       let k = n .before .before in
-      let l = k .before .before .before .before in
+      let l = k .before in
       let d = l .before .before .before in
       let s = d .before in
       let told = sym (link-read _ _ (l .entry-in .ensures .0) (k .class-of .ensures)) ∙ n .n .given .1 in
@@ -150,47 +95,47 @@ module _ (t : ℕ) where
   enum-told-4 : walk-lts.Need-enum-told-4 (calls t) (walk-at t) walk.Post
   enum-told-4 c = search needs
 
-  returns-5 : walk-lts.Need-returns-5 (calls t) (walk-at t) walk.Post
+  returns-3 : walk-lts.Need-returns-3 (calls t) (walk-at t) walk.Post
   unfolding chainStep
-  returns-5 c =
+  returns-3 c =
       let k = c .before .before .before in
-      let l = k .before .before .before .before in
+      let l = k .before in
       let d = l .before .before .before in
       let s = d .before in
       let step = chain-step _ _ _ (d .if1 .left) (link-read _ _ (l .entry-in .ensures .0) (k .class-of .ensures)) (c .before .enum-told .given .1) in
       walked-last _ _ _ _ (s .pre .1 .1) (d .if1 .left) (s .pre .1 .0 .0) (l .before .if2 .left) step (c .ended2 .ensures)
 
-  returns-6 : walk-lts.Need-returns-6 (calls t) (walk-at t) walk.Post
-  returns-6 c =
+  returns-4 : walk-lts.Need-returns-4 (calls t) (walk-at t) walk.Post
+  returns-4 c =
       let n = c .before .before .before in
       let k = n .before .before in
-      let l = k .before .before .before .before in
+      let l = k .before in
       let d = l .before .before .before in
       let s = d .before in
       let told = sym (link-read _ _ (l .entry-in .ensures .0) (k .class-of .ensures)) ∙ n .n .given .1 in
-      walked-next _ _ _ _ (s .pre .1 .1) (d .if1 .left) (s .pre .1 .0 .0) (l .before .if2 .left) _ told (c .walk3 .ensures)
+      walked-next _ _ _ _ (s .pre .1 .1) (d .if1 .left) (s .pre .1 .0 .0) (l .before .if2 .left) _ told (c .walk .ensures)
+
+  returns-5 : walk-lts.Need-returns-5 (calls t) (walk-at t) walk.Post
+  unfolding chainStep
+  returns-5 c =
+      let k = c .before .before in
+      let l = k .before in
+      let link = link-read _ _ (l .entry-in .ensures .0) (k .class-of .ensures) in
+      walked-broken _ _ _ (chain-step _ _ _ (l .before .before .before .if1 .left) link (c .enum-told2 .given .1))
+
+  returns-6 : walk-lts.Need-returns-6 (calls t) (walk-at t) walk.Post
+  unfolding chainStep
+  returns-6 c =
+      let k = c .before .before in
+      let l = k .before in
+      let link = link-read _ _ (l .entry-in .ensures .0) (k .class-of .ensures) in
+      walked-broken _ _ _ (chain-step _ _ _ (l .before .before .before .if1 .left) link (c .enum-told3 .given .1))
 
   returns-7 : walk-lts.Need-returns-7 (calls t) (walk-at t) walk.Post
   unfolding chainStep
   returns-7 c =
       let k = c .before .before in
-      let l = k .before .before .before .before in
-      let link = link-read _ _ (l .entry-in .ensures .0) (k .class-of .ensures) in
-      walked-broken _ _ _ (chain-step _ _ _ (l .before .before .before .if1 .left) link (c .enum-told2 .given .1))
-
-  returns-8 : walk-lts.Need-returns-8 (calls t) (walk-at t) walk.Post
-  unfolding chainStep
-  returns-8 c =
-      let k = c .before .before in
-      let l = k .before .before .before .before in
-      let link = link-read _ _ (l .entry-in .ensures .0) (k .class-of .ensures) in
-      walked-broken _ _ _ (chain-step _ _ _ (l .before .before .before .if1 .left) link (c .enum-told3 .given .1))
-
-  returns-9 : walk-lts.Need-returns-9 (calls t) (walk-at t) walk.Post
-  unfolding chainStep
-  returns-9 c =
-      let k = c .before .before in
-      let l = k .before .before .before .before in
+      let l = k .before in
       let link = link-read _ _ (l .entry-in .ensures .0) (k .class-of .ensures) in
       walked-broken _ _ _ (chain-step _ _ _ (l .before .before .before .if1 .left) link (c .enum-told4 .given .1))
 
@@ -203,27 +148,17 @@ pub +walk-spec : {M : Type 1} → statement M
     (returns-2 t)
     (element-write-marks t)
     (entry-in-requires t)
-    (add-if3 t)
-    (sub-walk t)
-    (sub-walk-2 t)
-    (walk-requires t)
-    (returns-3 t)
-    (is-above-requires t)
-    (add-walk t)
-    (sub-walk-3 t)
-    (walk-requires-2 t)
-    (returns-4 t)
     (class-of-requires t)
     (enum-told t)
     (ended-requires-2 t)
     (enum-known-n t)
-    (sub-walk-4 t)
-    (walk-requires-3 t)
+    (sub-walk t)
+    (walk-requires t)
     (enum-told-2 t)
     (enum-told-3 t)
     (enum-told-4 t)
+    (returns-3 t)
+    (returns-4 t)
     (returns-5 t)
     (returns-6 t)
     (returns-7 t)
-    (returns-8 t)
-    (returns-9 t)

@@ -8,9 +8,7 @@ use mathlib.Core.Option.{Option, none, some}
 use lib.Dec.{eqb}
 use lib.ListN.{length, getD, replicate}
 use Rattle.words.specs.Lists.{anyOf, has, isSome}
-use Rattle.verdicts.specs.declared.Verdict.{Verdict}
-use Rattle.verdicts.specs.Rows.{unlessRefused}
-use Rattle.card_model.specs.Files.{chain, chainRow, sharingRow}
+use Rattle.card_model.specs.Files.{chain}
 
 -- One number for each user block: 0 where it isn't marked, and else how many blocks of its chain are left there, itself included.
 unfoldable pub noMarks : List ℕ
@@ -28,9 +26,10 @@ pub record Lengths (table marks : List ℕ) : Type 0 where
 pub record Marking (blocks marks : List ℕ) : Type 0 where
   pub exactly : (b : ℕ) → isMarked marks b ≡ has b blocks
 
--- Rows 27 and 28.
-abbrev pub chainRows : List ℕ → List (List ℕ) → Verdict
-chainRows table directory = unlessRefused (chainRow table directory) (sharingRow table directory)
+-- The marks after walks along good chains that share no block.
+pub record MarkedFiles (table blocks marks : List ℕ) : Type 0 where
+  pub lengths : Lengths table marks
+  pub marking : Marking blocks marks
 
 -- ---- walks
 
