@@ -1,3 +1,4 @@
 pub mod JudgeLaws
+pub mod EmptyLaws
 pub mod AnswerLaws
 pub mod ReadLaws

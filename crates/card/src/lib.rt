@@ -9,6 +9,7 @@ use card_directory::entry;
 use card_directory::listing::UsedEntries;
 use card_directory::listing::list_used;
 use card_directory::search::FoundEntry;
+use card_directory::search::any_used;
 use card_directory::search::first_used;
 use card_games::game_row;
 use card_model::Checked;
@@ -98,13 +99,19 @@ fn judge_names(
     game_row(card, used, heads, count)
 }
 
-// Refusals 26 to 30, for check and list.
+// Refusals 26 to 30, for check and list. A card without files needs no lists of fields.
 fn judge_files(card: &[u8], marks: &mut [u8; 200], used: &mut [u8; 208]) -> UsedEntries
     requires { ⌜ (length (now card) ≡ 131072) × (now marks ≡ noMarks) × (length (now used) ≡ 208) ⌝ }
     ensures { λ r. ⌜ r .verdict ≡ directoryRows (tableOf (now (card .entry))) (directoryOf (now (card .entry))) ⌝ }
     ensures { λ r. ⌜ (accepted (r .verdict) ≡ true → MarkedFiles (tableOf (now (card .entry))) (filesBefore (tableOf (now (card .entry))) (directoryOf (now (card .entry))) 208) (now (marks .exit))) ⌝ }
     ensures { λ r. ⌜ Listed (directoryOf (now (card .entry))) 208 (now (used .exit)) (r .count) ⌝ }
 {
+    if !any_used(card) {
+        return UsedEntries {
+            verdict: done(),
+            count: 0,
+        };
+    }
     let mut heads = [0u32; 208];
     let mut tails = [0u32; 208];
     let chains = judge_chains(card, marks, used, &mut heads, &mut tails);

@@ -1,9 +1,11 @@
 -- A run without used entries. Assumes nothing.
 use Prim.Native.Nat.{ℕ, _+_, _-_, _*_, _/_, _%_, _≤_, _<_}
-use mathlib.Core.Path.{_≡_, sym, ap, _∙_}
-use mathlib.Core.Bool.{Bool, false, _||_, or-assoc, or-false}
+use mathlib.Core.Path.{_≡_, refl, sym, ap, _∙_}
+use mathlib.Core.Bool.{Bool, true, false, _||_, or-assoc, or-false}
 use mathlib.Core.List.{List}
 use native.Mathlib.Omega.{arith}
+use lib.Dec.{ltb}
+use borrow.Author.Tests.{ltb-true, ltb-false}
 use Rattle.words.specs.Lists.{anyOf}
 use Rattle.words.proofs.LoopLaws.{numbers-next, any-end}
 use Rattle.words.proofs.JoinLaws.{none-range}
@@ -30,6 +32,18 @@ module _ (directory : List (List ℕ)) where
       let e : 16 * n + (k - 16 * n) ≡ k = omega arith in
       ap (λ (j : ℕ). isUsed (entryAt directory j)) (sym e)
       ∙ none-range (λ j. isUsed (entryAt directory (16 * n + j))) 0 16 u (k - 16 * n) (omega arith) (omega arith)
+
+  -- ---- no entry of the first runs is used
+
+  abbrev pub NoneTo : ℕ → Type 0
+  NoneTo end = (i : ℕ) → i < end → isUsed (entryAt directory i) ≡ false
+
+  pub none-next : (n : ℕ) → NoneTo (16 * n) → usedFrom directory n 0 ≡ false → NoneTo (16 * (n + 1))
+  none-next n before u i h = go (ltb i (16 * n)) refl
+    where
+      go : (t : Bool) → ltb i (16 * n) ≡ t → isUsed (entryAt directory i) ≡ false
+      go true e = before i (ltb-true i (16 * n) e)
+      go false e = run-unused n u i (ltb-false i (16 * n) e) (omega (arith, h))
 
   -- ---- where a pass goes on
 

@@ -1,13 +1,16 @@
 // The search through the directory by use.
 use crate::entry::entry_at;
 use crate::entry::is_used;
+use crate::runs::is_run_used;
 use crate::runs::pass;
 use words::wide;
 ghost use mathlib.Core.Path.{_≡_};
-ghost use Prim.Native.Nat.{_≤_};
+ghost use mathlib.Core.Bool.{false};
+ghost use Prim.Native.Nat.{ℕ, _≤_, _<_};
 ghost use lib.Dec.{leb};
 ghost use lib.ListN.{length};
 ghost use Rattle.card_model.specs.Layout.{directoryOf};
+ghost use Rattle.card_model.specs.Entries.{isUsed, entryAt};
 ghost use Rattle.card_model.specs.Calls.{firstUsed};
 ghost use Rattle.card_directory.specs.Found.{asFound};
 ghost use Rattle.card_directory.specs.Listed.{reached, Listed};
@@ -16,6 +19,21 @@ ghost use Rattle.card_directory.specs.Listed.{reached, Listed};
 pub enum FoundEntry {
     At(usize),
     Nothing,
+}
+
+// Whether an entry is used. The first of the directory's blocks that has one ends the search.
+pub fn any_used(card: &[u8]) -> bool
+    requires { ⌜ length (now card) ≡ 131072 ⌝ }
+    ensures { λ r. ⌜ (r ≡ false → (i : ℕ) → i < 208 → isUsed (entryAt (directoryOf (now (card .entry))) i) ≡ false) ⌝ }
+{
+    let mut n = 0;
+    while n < 13 {
+        if is_run_used(card, n) {
+            return true;
+        }
+        n += 1;
+    }
+    false
 }
 
 // Whether all listed entries are before `start`.
