@@ -15,7 +15,7 @@ use Rattle.card_model.specs.Table.{fatEntry, linkOf, linkAt}
 use Rattle.card_model.specs.Files.{chainStep, chain}
 use Rattle.card_table.proofs.TableLaws.{names-next}
 use Rattle.card_pieces.specs.Marks.{Lengths, Walkable, Walked, outcome, IsAfter}
-use Rattle.card_pieces.specs.Pieces.{blockOn, Within, LeadsBy, Leads, Piece, markedOn, Onward, Taken}
+use Rattle.card_pieces.specs.Pieces.{blockOn, Within, LeadsBy, Leads, markedOn, Onward, Taken}
 use Rattle.card_pieces.proofs.WalkLaws.{chain-step, walkable, walked-last, next-asked, walked-next, after-none, after-next}
 
 -- ---- blocks of a piece
@@ -130,10 +130,11 @@ module _ (table : List ℕ) where
         } in
         rw l at (onward-further o rest)
 
-  pub piece-onward : {marks : List ℕ} {down : Bool} {first left steps : ℕ} → Piece table marks down first steps → steps < left → left ≤ 200
-      → Walkable table marks left first → Onward table marks first left (markedOn (blockOn down first) marks 0 left steps) (blockOn down first steps) (left - steps)
-  piece-onward {marks} {down} {first} {left} {steps} p s f k =
-      rw (on-start down first) at (run-onward down first steps (p .lead) steps 0 left marks (omega arith) s f (rw (← on-start down first) at k) (λ j a g. p .new j g))
+  pub piece-onward : {marks : List ℕ} {down : Bool} {first left steps : ℕ} → Leads table down first steps
+      → ((i : ℕ) → i < steps → getD marks (blockOn down first i) 0 ≡ 0) → steps < left → left ≤ 200 → Walkable table marks left first
+      → Onward table marks first left (markedOn (blockOn down first) marks 0 left steps) (blockOn down first steps) (left - steps)
+  piece-onward {marks} {down} {first} {left} {steps} r new s f k =
+      rw (on-start down first) at (run-onward down first steps r steps 0 left marks (omega arith) s f (rw (← on-start down first) at k) (λ j a g. new j g))
 
   -- ---- a file of one block
 

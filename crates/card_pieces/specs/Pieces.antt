@@ -4,7 +4,7 @@ use Prim.Native.Nat.{ℕ, zero, suc, _+_, _-_, _%_, _≤_, _<_}
 use mathlib.Core.Path.{_≡_}
 use mathlib.Core.Bool.{Bool, true, false, cond}
 use mathlib.Core.List.{List}
-use lib.ListN.{getD, set}
+use lib.ListN.{set}
 use Rattle.card_model.specs.declared.Link.the-variants.{Next}
 use Rattle.card_model.specs.Table.{fatEntry, linkAt}
 use Rattle.card_model.specs.Files.{chain}
@@ -29,11 +29,6 @@ LeadsBy table step b = (step + b) % 65536 ≡ fatEntry table b
 pub record Leads (table : List ℕ) (down : Bool) (first steps : ℕ) : Type 0 where
   pub within : Within down first (steps + 1)
   pub each : (i : ℕ) → i < steps → linkAt table (blockOn down first i) ≡ Next (blockOn down first (i + 1))
-
--- And none of the blocks that they leave behind has a mark.
-pub record Piece (table marks : List ℕ) (down : Bool) (first steps : ℕ) : Type 0 where
-  pub lead : Leads table down first steps
-  pub new : (i : ℕ) → i < steps → getD marks (blockOn down first i) 0 ≡ 0
 
 -- The marks that so many steps of a walk leave, from number i of the blocks on with so many left.
 unfoldable pub markedOn : (ℕ → ℕ) → List ℕ → ℕ → ℕ → ℕ → List ℕ

@@ -7,7 +7,7 @@ ghost use Prim.Native.Nat.{ℕ, _+_, _≤_, _<_};
 ghost use lib.ListN.{length, getD};
 ghost use Rattle.card_model.specs.Layout.{tableOf};
 ghost use Rattle.card_pieces.specs.Marks.{Lengths, Walkable};
-ghost use Rattle.card_pieces.specs.Pieces.{blockOn, Within, LeadsBy, Leads, Piece, markedOn, Onward, Taken};
+ghost use Rattle.card_pieces.specs.Pieces.{blockOn, Within, LeadsBy, Leads, markedOn, Onward, Taken};
 
 // The block so many steps on from the first, each to the neighbour below or above.
 pub fn block_on(down: bool, first: usize, i: usize) -> usize
@@ -87,17 +87,6 @@ fn mark_run(marks: &mut [u8; 200], down: bool, first: usize, left: usize, steps:
     }
 }
 
-// Whether so many steps go to neighbours and leave no mark behind.
-fn is_piece(card: &[u8], marks: &[u8; 200], down: bool, first: usize, steps: usize) -> bool
-    requires { ⌜ (length (now card) ≡ 131072) × (first < 200) ⌝ }
-    ensures { λ r. ⌜ (r ≡ true → Piece (tableOf (now (card .entry))) (now (marks .entry)) down first steps) ⌝ }
-{
-    if !leads(card, down, first, steps) {
-        return false;
-    }
-    !any_marked(marks, down, first, steps)
-}
-
 // Where a walk goes on, with so many blocks left, and how many of its next steps are tried together.
 pub struct Rest {
     pub block: usize,
@@ -114,7 +103,8 @@ fn lesser(a: usize, b: usize) -> usize
     b
 }
 
-// Takes the steps of a walk that are tried together, where they are a piece; else half as many are tried next.
+// Takes the steps of a walk that are tried together, where they all go to neighbours; else half as many are tried next. A mark
+// among the blocks is left to the walk, which ends there.
 fn pass_piece(card: &[u8], marks: &mut [u8; 200], down: bool, at: Rest) -> Rest
     requires { ⌜ (length (now card) ≡ 131072) × (at .block < 200) × (at .left ≤ 200) ⌝ }
     requires { ⌜ (1 ≤ at .steps) × (at .steps < at .left) ⌝ }
@@ -125,11 +115,18 @@ fn pass_piece(card: &[u8], marks: &mut [u8; 200], down: bool, at: Rest) -> Rest
     let block = at.block;
     let left = at.left;
     let steps = at.steps;
-    if !is_piece(card, marks, down, block, steps) {
+    if !leads(card, down, block, steps) {
         return Rest {
             block,
             left,
             steps: steps / 2,
+        };
+    }
+    if any_marked(marks, down, block, steps) {
+        return Rest {
+            block,
+            left,
+            steps: 0,
         };
     }
     mark_run(marks, down, block, left, steps);
