@@ -85,7 +85,7 @@ fn find_same(card: &[u8], used: &[u8; 208], next: &[u8; 208], start: usize, i: u
 }
 
 // The refusal at the first entry whose name is taken, from the list of the used entries; where there is none, all names are in the
-// table. What stands before a name in its slot is stored only where there is one: on some machines the loop waits for each store.
+// table. What stands before a name in its slot is stored only where there is one.
 pub fn name_row(
     card: &[u8],
     used: &[u8; 208],

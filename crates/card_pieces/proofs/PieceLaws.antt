@@ -40,6 +40,12 @@ module _ {down : Bool} {first size : ℕ} (w : Within down first size) (i : ℕ)
       by true e q = omega (arith, w .downward e, h, l, q)
       by false e q = omega (arith, l, q)
 
+pub room-down : {first steps : ℕ} → first < 200 → steps ≤ first → Within true first (steps + 1)
+room-down s r = record { starts = s; small = omega (arith, s, r); downward = λ e. omega (arith, r); upward = λ e. absurd (false≢true (sym e)) }
+
+pub room-up : {first steps : ℕ} → first < 200 → steps < 200 - first → Within false first (steps + 1)
+room-up s r = record { starts = s; small = omega (arith, r); downward = λ e. absurd (false≢true e); upward = λ e. omega (arith, r) }
+
 pub within-less : {down : Bool} {first size : ℕ} → Within down first (size + 1) → Within down first size
 within-less w = record { starts = w .starts; small = omega (arith, w .small); downward = λ e. omega (arith, w .downward e); upward = λ e. omega (arith, w .upward e) }
 
@@ -59,22 +65,24 @@ module _ (table : List ℕ) where
   unfolding linkAt linkOf
   ends-there b q = rw q
 
-  module _ (first steps : ℕ) (s : first < 200) where
-    pub leads-down : steps ≤ first → ((b : ℕ) → first - steps + 1 ≤ b → b < first + 1 → LeadsBy table 65535 b) → Leads table true first steps
+  module _ (first steps : ℕ) where
+    pub leads-down : Within true first (steps + 1) → ((b : ℕ) → first - steps + 1 ≤ b → b < first + 1 → LeadsBy table 65535 b) → Leads table true first steps
     unfolding blockOn
-    leads-down r all = record {
-      within = record { starts = s; small = omega (arith, s, r); downward = λ e. omega (arith, r); upward = λ e. absurd (false≢true (sym e)) };
+    leads-down w all = record {
+      within = w;
       each = λ i h.
+          let r = w .downward refl in
           let q = all (first - i) (omega (arith, r, h)) (omega arith) in
-          let e : fatEntry table (first - i) ≡ first - (i + 1) = omega (arith, q, r, h, s) in
-          names (first - i) _ e (omega (arith, s));
+          let e : fatEntry table (first - i) ≡ first - (i + 1) = omega (arith, q, r, h, w .starts) in
+          names (first - i) _ e (omega (arith, w .starts));
     }
 
-    pub leads-up : first + steps < 200 → ((b : ℕ) → first ≤ b → b < first + steps → LeadsBy table 1 b) → Leads table false first steps
+    pub leads-up : Within false first (steps + 1) → ((b : ℕ) → first ≤ b → b < first + steps → LeadsBy table 1 b) → Leads table false first steps
     unfolding blockOn
-    leads-up r all = record {
-      within = record { starts = s; small = omega (arith, r); downward = λ e. absurd (false≢true e); upward = λ e. omega (arith, r) };
+    leads-up w all = record {
+      within = w;
       each = λ i h.
+          let r = w .upward refl in
           let q = all (first + i) (omega arith) (omega (arith, h)) in
           let e : fatEntry table (first + i) ≡ first + (i + 1) = omega (arith, q, r, h) in
           names (first + i) _ e (omega (arith, r, h));
@@ -98,6 +106,12 @@ module _ (table : List ℕ) where
   pub onward-further : {marks marks′ marks″ : List ℕ} {b left b′ left′ b″ left″ : ℕ} → Onward table marks b left marks′ b′ left′
       → Onward table marks′ b′ left′ marks″ b″ left″ → Onward table marks b left marks″ b″ left″
   onward-further o p = record { below = p .below; few = p .few; ready = p .ready; same = λ found m w. o .same found m (p .same found m w) }
+
+  -- no step is taken, and fewer are tried next
+  pub onward-retry : {marks : List ℕ} {b left steps b′ left′ steps′ n : ℕ} → b < 200 → left ≤ 200 → Walkable table marks left b → steps < left → n < steps
+      → (b′ ≡ b) × (left′ ≡ left) × (steps′ ≡ n) → Onward table marks b left marks b′ left′ × ((steps′ < left′) × (left′ + steps′ < left + steps))
+  onward-retry {marks} {b} {left} h f k s l e =
+      (rw (e .0, e .1) (onward-here marks b left h f k), (omega (arith, e .1, e .2, s, l), omega (arith, e .1, e .2, l)))
 
   module _ (down : Bool) (first all : ℕ) (r : Leads table down first all) where
     abbrev on : ℕ → ℕ

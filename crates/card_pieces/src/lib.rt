@@ -44,19 +44,27 @@ fn all_lead(card: &[u8], from: usize, to: usize, step: u16) -> bool
     good
 }
 
+// Whether so many steps from the first block stay in the user blocks.
+fn has_room(down: bool, first: usize, steps: usize) -> bool
+    requires { ⌜ first < 200 ⌝ }
+    ensures { λ r. ⌜ (r ≡ true → Within down first (steps + 1)) ⌝ }
+{
+    if down {
+        return steps <= first;
+    }
+    steps < 200 - first
+}
+
 // Whether so many steps from the first block each go to the neighbour.
 pub fn leads(card: &[u8], down: bool, first: usize, steps: usize) -> bool
     requires { ⌜ (length (now card) ≡ 131072) × (first < 200) ⌝ }
     ensures { λ r. ⌜ (r ≡ true → Leads (tableOf (now (card .entry))) down first steps) ⌝ }
 {
-    if down {
-        if first < steps {
-            return false;
-        }
-        return all_lead(card, first - steps + 1, first + 1, 65535);
-    }
-    if 200 - first <= steps {
+    if !has_room(down, first, steps) {
         return false;
+    }
+    if down {
+        return all_lead(card, first - steps + 1, first + 1, 65535);
     }
     all_lead(card, first, first + steps, 1)
 }
@@ -94,6 +102,17 @@ pub struct Rest {
     pub steps: usize,
 }
 
+// The same place, with so many steps to try.
+fn retry(at: Rest, steps: usize) -> Rest
+    ensures { λ r. ⌜ (r .block ≡ at .block) × (r .left ≡ at .left) × (r .steps ≡ steps) ⌝ }
+{
+    Rest {
+        block: at.block,
+        left: at.left,
+        steps,
+    }
+}
+
 fn lesser(a: usize, b: usize) -> usize
     ensures { λ r. ⌜ (r ≤ a) × (r ≤ b) ⌝ }
 {
@@ -104,7 +123,8 @@ fn lesser(a: usize, b: usize) -> usize
 }
 
 // Takes the steps of a walk that are tried together, where they all go to neighbours; else half as many are tried next. A mark
-// among the blocks is left to the walk, which ends there.
+// among the blocks is left to the walk, which ends there; chains that meet have their ends in common, so the block behind the steps
+// is looked at first.
 fn pass_piece(card: &[u8], marks: &mut [u8; 200], down: bool, at: Rest) -> Rest
     requires { ⌜ (length (now card) ≡ 131072) × (at .block < 200) × (at .left ≤ 200) ⌝ }
     requires { ⌜ (1 ≤ at .steps) × (at .steps < at .left) ⌝ }
@@ -115,19 +135,17 @@ fn pass_piece(card: &[u8], marks: &mut [u8; 200], down: bool, at: Rest) -> Rest
     let block = at.block;
     let left = at.left;
     let steps = at.steps;
+    if !has_room(down, block, steps) {
+        return retry(at, steps / 2);
+    }
+    if marks[block_on(down, block, steps)] != 0 {
+        return retry(at, 0);
+    }
     if !leads(card, down, block, steps) {
-        return Rest {
-            block,
-            left,
-            steps: steps / 2,
-        };
+        return retry(at, steps / 2);
     }
     if any_marked(marks, down, block, steps) {
-        return Rest {
-            block,
-            left,
-            steps: 0,
-        };
+        return retry(at, 0);
     }
     mark_run(marks, down, block, left, steps);
     let rest = left - steps;
@@ -138,8 +156,9 @@ fn pass_piece(card: &[u8], marks: &mut [u8; 200], down: bool, at: Rest) -> Rest
     }
 }
 
-// Passes what can be passed of a file in pieces of eight blocks and more; a walk goes on from there, for one block at the least. Its
-// first entry tells which way the file lies. Where the first block has a mark, the walk ends there.
+// Passes what can be passed of a file in pieces of 32 blocks and more, for which a walk would take longer than the tries; it goes on
+// from there, for one block at the least. The first entry tells which way the file lies. Where the first block has a mark, the walk
+// ends there.
 pub fn pass_pieces(card: &[u8], marks: &mut [u8; 200], first: usize, size: usize) -> Rest
     requires { ⌜ (length (now card) ≡ 131072) × (first < 200) × (1 ≤ size) × (size ≤ 200) ⌝ }
     requires { ⌜ Lengths (tableOf (now card)) (now marks) ⌝ }
@@ -154,7 +173,7 @@ pub fn pass_pieces(card: &[u8], marks: &mut [u8; 200], first: usize, size: usize
         return at;
     }
     let down = fat_entry(card, first) < first;
-    while 8 <= at.steps {
+    while 32 <= at.steps {
         at = pass_piece(card, marks, down, at);
     }
     at
