@@ -1,4 +1,4 @@
-//! Sound cards built at random: games and data, chains shuffled, orphans, damaged blocks.
+//! Sound cards built at random: games and data, chains upwards, downwards and shuffled, orphans, damaged blocks.
 
 use std::collections::BTreeSet;
 
@@ -60,8 +60,10 @@ fn share_out(prng: &mut Prng, card: &mut Card, shape: &Shape) -> Vec<Vec<u16>> {
         chains.push((0..game).collect());
     }
     let mut rest: Vec<u16> = (game..USER).collect();
-    if !prng.one_in(4) {
-        prng.shuffle(&mut rest);
+    match prng.below(4) {
+        0 => {}
+        1 => rest.reverse(),
+        _ => prng.shuffle(&mut rest),
     }
     for _ in 0..shape.files {
         let size = prng.within(1..=shape.longest).min(rest.len());
