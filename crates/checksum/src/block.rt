@@ -4,6 +4,7 @@
 use crate::folding::fold64;
 use crate::folding::remainder;
 use loads::little6;
+use loads::little6_of8;
 use loads::little8;
 ghost use mathlib.Core.Path.{_≡_};
 ghost use mathlib.Core.List.{List, _∷_};
@@ -99,7 +100,7 @@ fn load(bytes: &[u8]) -> Eight
         e: little8(bytes, 32),
         f: little8(bytes, 40),
         g: little8(bytes, 48),
-        h: little6(bytes, 56),
+        h: little6_of8(bytes, 54),
     }
 }
 
@@ -123,7 +124,7 @@ fn load_page(number: u16, page: &[u8]) -> Eight
         e: little8(page, 30),
         f: little8(page, 38),
         g: little8(page, 46),
-        h: little6(page, 54),
+        h: little6_of8(page, 52),
     }
 }
 

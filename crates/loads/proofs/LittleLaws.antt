@@ -15,6 +15,13 @@ use Rattle.loads.proofs.WordLaws.{pow-next}
 rest : {n : ℕ} {s : List ℕ} {at w : ℕ} → Little (suc n) s at w → Little n s (at + 1) (w / 256)
 rest known = record { says = known .says .1 }
 
+-- a word without its first two bytes
+pub without-two : {n : ℕ} {s : List ℕ} {at w : ℕ} → Little (suc (suc n)) s at w → Little n s (at + 2) (w / 65536)
+without-two {n} {s} {at} {w} known =
+    let place : at + 1 + 1 ≡ at + 2 = omega arith in
+    let number : w / 256 / 256 ≡ w / 65536 = omega arith in
+    subst (λ (i : ℕ). Little n s i (w / 65536)) place (subst (Little n s (at + 1 + 1)) number (rest (rest known)))
+
 pub little-lt : (n : ℕ) {s : List ℕ} {at w : ℕ} → Little n s at w → w < 2 ^ (n * 8)
 little-lt zero known = omega (arith, known .says)
 little-lt (suc n) {s} {at} {w} known =

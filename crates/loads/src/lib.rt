@@ -1,5 +1,5 @@
 // Several bytes of a run as one number. The expressions are flat because the compiler makes one load of that shape, with a byte
-// swap where it is big endian, and of no loop; nor where the same bytes are read twice.
+// swap where it is big endian, and of no loop.
 ghost use mathlib.Core.Path.{_≡_};
 ghost use Prim.Native.Nat.{_+_, _<_, _≤_};
 ghost use lib.ListN.{length};
@@ -66,4 +66,12 @@ pub fn little8(s: &[u8], at: usize) -> u64
     ensures { λ r. ⌜ Little 8 (now (s .entry)) at r ⌝ }
 {
     long(little4(s, at)) | (long(little4(s, at + 4)) << 32)
+}
+
+// The last six of the eight bytes from a place, little endian: one load and a shift, where six alone are two loads.
+pub fn little6_of8(s: &[u8], at: usize) -> u64
+    requires { ⌜ at + 8 ≤ length (now s) ⌝ }
+    ensures { λ r. ⌜ Little 6 (now (s .entry)) (at + 2) r ⌝ }
+{
+    little8(s, at) >> 16
 }

@@ -26,8 +26,8 @@ little8-requires-6 c κs = search needs
 little8-requires-7 : tie.Need-little8-requires-7
 little8-requires-7 c κs = search needs
 
-little6-requires : tie.Need-little6-requires
-little6-requires c κs = rw (c .before .before .before .before .before .before .before .before .pre) (lit≤ tt)
+little6-of8-requires : tie.Need-little6-of8-requires
+little6-of8-requires c κs = rw (c .before .before .before .before .before .before .before .before .pre) (lit≤ tt)
 
 returns : tie.Need-returns
 returns c = record {
@@ -39,7 +39,7 @@ returns c = record {
   has-e = c .before .before .before .little85 .ensures;
   has-f = c .before .before .little86 .ensures;
   has-g = c .before .little87 .ensures;
-  has-h = c .little6 .ensures;
+  has-h = c .little6-of8 .ensures;
 }
 
 pub load-spec : {M : Type 1} → statement M
@@ -53,5 +53,5 @@ load-spec =
     little8-requires-5
     little8-requires-6
     little8-requires-7
-    little6-requires
+    little6-of8-requires
     returns)

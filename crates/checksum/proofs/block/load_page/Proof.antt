@@ -32,8 +32,8 @@ little8-requires-5 c κs = search needs
 little8-requires-6 : tie.Need-little8-requires-6
 little8-requires-6 c κs = search needs
 
-little6-requires-2 : tie.Need-little6-requires-2
-little6-requires-2 c κs = rw (c .before .before .before .before .before .before .before .before .before .pre) (lit≤ tt)
+little6-of8-requires : tie.Need-little6-of8-requires
+little6-of8-requires c κs = rw (c .before .before .before .before .before .before .before .before .before .pre) (lit≤ tt)
 
 returns : tie.Need-returns
 returns c = record {
@@ -45,7 +45,7 @@ returns c = record {
   has-e = record { says = c .before .before .before .little84 .ensures .says };
   has-f = record { says = c .before .before .little85 .ensures .says };
   has-g = record { says = c .before .little86 .ensures .says };
-  has-h = record { says = c .little62 .ensures .says };
+  has-h = record { says = c .little6-of8 .ensures .says };
 }
 
 pub load-page-spec : {M : Type 1} → statement M
@@ -60,5 +60,5 @@ load-page-spec =
     little8-requires-4
     little8-requires-5
     little8-requires-6
-    little6-requires-2
+    little6-of8-requires
     returns)
