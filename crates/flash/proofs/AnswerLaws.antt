@@ -19,7 +19,6 @@ use Rattle.flash_model.specs.Calls.{Call.onPage, Call.onWhole, PageCall.read, P
 use Rattle.flash_model.specs.Demands.{namedBy}
 use Rattle.flash_model.proofs.CallLaws.{unrefused-sound, read-rows}
 use Rattle.flash_model.proofs.Demand2Laws.{refused-first}
-use Rattle.measures.specs.declared.Measures.{Measures}
 use Rattle.partition.specs.Usable.{Usable}
 use Rattle.partition.specs.Opening.{openingOf}
 use Rattle.partition.specs.declared.opening.Opened.the-variants as opening
@@ -36,23 +35,23 @@ unfolding openingOf
 opened-refused image partition n e = go (eqb (refusal image partition) 0) refl e
   where
     go : (t : Bool) → eqb (refusal image partition) 0 ≡ t
-        → cond t (opening.Open (record { size = length image }) (used image)) (opening.Refused (refusal image partition)) ≡ opening.Refused n
+        → cond t (opening.Open (used image)) (opening.Refused (refusal image partition)) ≡ opening.Refused n
         → (refusal image partition ≡ n) × (n ≢ 0)
     go true q f = let z : _≡_ {A = ℕ} 0 1 = cc in absurd (omega arith)
     go false q f = let z : refusal image partition ≡ n = cc in (z, λ w. eqb-false (refusal image partition) 0 q (z ∙ w))
 
-pub opened-usable : (image : List ℕ) (partition : ℕ) (m : Measures) (count : ℕ) → openingOf image partition ≡ opening.Open m count
-    → (refusal image partition ≡ 0) × Usable image (m .size) count
+pub opened-usable : (image : List ℕ) (partition count : ℕ) → openingOf image partition ≡ opening.Open count
+    → (refusal image partition ≡ 0) × ((size : ℕ) → size ≡ length image → Usable image size count)
 unfolding openingOf
-opened-usable image partition m count e = go (eqb (refusal image partition) 0) refl e
+opened-usable image partition count e = go (eqb (refusal image partition) 0) refl e
   where
     go : (t : Bool) → eqb (refusal image partition) 0 ≡ t
-        → cond t (opening.Open (record { size = length image }) (used image)) (opening.Refused (refusal image partition)) ≡ opening.Open m count
-        → (refusal image partition ≡ 0) × Usable image (m .size) count
+        → cond t (opening.Open (used image)) (opening.Refused (refusal image partition)) ≡ opening.Open count
+        → (refusal image partition ≡ 0) × ((size : ℕ) → size ≡ length image → Usable image size count)
     go true q f =
         let z = eqb-true (refusal image partition) 0 q in
-        let l : _≡_ {A = Measures} (record { size = length image }) m = cc in
-        (z, record { has-size = ap (λ (x : Measures). x .size) l; is-sound = unrefused-sound image partition z; used-is = cc })
+        let u : count ≡ used image = cc in
+        (z, λ size s. record { has-size = sym s; is-sound = unrefused-sound image partition z; used-is = u })
     go false q f = let z : _≡_ {A = ℕ} 0 1 = cc in absurd (omega arith)
 
 -- ---- refused, or done

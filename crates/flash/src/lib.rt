@@ -4,6 +4,7 @@
 // No call asks anything of what it is lent.
 mod steps;
 
+use measures::Measures;
 use partition::opening::Opened;
 use partition::opening::open;
 ghost use mathlib.Core.List.{[], _∷_};
@@ -34,7 +35,7 @@ pub fn check(image: &[u8], partition: u8) -> u8
 {
     match open(image, partition) {
         Opened::Refused(refused) => refused,
-        Opened::Open(_, _) => 0,
+        Opened::Open(_) => 0,
     }
 }
 
@@ -44,7 +45,11 @@ pub fn report(image: &[u8], partition: u8) -> Summary
 {
     match open(image, partition) {
         Opened::Refused(refused) => Summary::Refused(refused),
-        Opened::Open(m, used) => Summary::Counted(steps::count_blocks(image, m, used)),
+        Opened::Open(used) => Summary::Counted(steps::count_blocks(
+            image,
+            Measures::of(image.len()),
+            used,
+        )),
     }
 }
 
@@ -54,7 +59,7 @@ pub fn next_live(image: &[u8], partition: u8, from: usize) -> LiveNumber
 {
     match open(image, partition) {
         Opened::Refused(refused) => LiveNumber::Refused(refused),
-        Opened::Open(m, used) => steps::next_from(image, m, used, from),
+        Opened::Open(used) => steps::next_from(image, Measures::of(image.len()), used, from),
     }
 }
 
@@ -64,7 +69,13 @@ pub fn read(image: &[u8], partition: u8, number: usize, page: &mut [u8]) -> u8
 {
     match open(image, partition) {
         Opened::Refused(refused) => refused,
-        Opened::Open(m, used) => pages::read_page(image, m, used, number, page),
+        Opened::Open(used) => pages::read_page(
+            image,
+            Measures::of(image.len()),
+            used,
+            number,
+            page,
+        ),
     }
 }
 
@@ -74,7 +85,14 @@ pub fn save(image: &mut [u8], partition: u8, number: usize, expected: &[u8], pag
 {
     match open(&image[..], partition) {
         Opened::Refused(refused) => refused,
-        Opened::Open(m, used) => pages::save_page(image, m, used, number, expected, page),
+        Opened::Open(used) => pages::save_page(
+            image,
+            Measures::of(image.len()),
+            used,
+            number,
+            expected,
+            page,
+        ),
     }
 }
 
@@ -84,8 +102,8 @@ pub fn erase(image: &mut [u8], partition: u8) -> u8
 {
     match open(&image[..], partition) {
         Opened::Refused(refused) => refused,
-        Opened::Open(m, used) => {
-            compaction::erase(image, m, used);
+        Opened::Open(used) => {
+            compaction::erase(image, Measures::of(image.len()), used);
             0
         }
     }

@@ -1,6 +1,6 @@
 -- How an image is opened: each way out of the function is a case of `openingOf`. Assumes nothing.
 use Prim.Native.Nat.{ℕ}
-use mathlib.Core.Path.{_≡_, refl, sym, ap, _∙_}
+use mathlib.Core.Path.{_≡_, refl, sym, _∙_}
 use mathlib.Core.Bool.{Bool, true, false, not, cond}
 use mathlib.Core.List.{List}
 use native.Mathlib.Omega.{arith}
@@ -14,7 +14,6 @@ use Rattle.flash_model.specs.Partition.{magic, headerNumber, version, bitmapOf,
 use Rattle.bitmap.specs.Over.{Over}
 use Rattle.bitmap.specs.InSequence.{sequenceOf}
 use Rattle.bitmap.specs.declared.Sequence.the-variants.{Whole, Broken}
-use Rattle.measures.specs.declared.Measures.{Measures}
 use Rattle.partition.specs.Opening.{headerRefusal, openingOf}
 use Rattle.partition.specs.declared.opening.Opened.the-variants.{Refused, Open}
 
@@ -68,13 +67,13 @@ module _ (image : List ℕ) (partition : ℕ) where
             rw r
         go false q e = let z : _≡_ {A = ℕ} 0 1 = cc in absurd (omega arith)
 
-    pub open-whole : (m : Measures) → m .size ≡ length image → (n : ℕ) → sequenceOf image ≡ Whole n → Open m n ≡ openingOf image partition
+    pub open-whole : (n : ℕ) → sequenceOf image ≡ Whole n → Open n ≡ openingOf image partition
     unfolding openingOf sequenceOf rest
-    open-whole m s n e = go (outOfSequence (bitmapOf image) (capacity (length image))) refl e
+    open-whole n e = go (outOfSequence (bitmapOf image) (capacity (length image))) refl e
       where
-        go : (t : Bool) → outOfSequence (bitmapOf image) (capacity (length image)) ≡ t → cond t Broken (Whole (used image)) ≡ Whole n → Open m n ≡ openingOf image partition
+        go : (t : Bool) → outOfSequence (bitmapOf image) (capacity (length image)) ≡ t → cond t Broken (Whole (used image)) ≡ Whole n → Open n ≡ openingOf image partition
         go true q e = let z : _≡_ {A = ℕ} 0 1 = cc in absurd (omega arith)
         go false q e =
             let r : refusal image partition ≡ 0 = rest-is ∙ rw q in
             let count : n ≡ used image = cc in
-            rw (r, count) (ap (λ (i : ℕ). Open (record { size = i }) (used image)) s)
+            rw (r, count)

@@ -1,4 +1,4 @@
--- What opening an image answers: document 01's refusals 1 to 5, or the measures and the count of used blocks.
+-- What opening an image answers: document 01's refusals 1 to 5, or the count of used blocks.
 -- Assumes nothing.
 use Prim.Native.Nat.{ℕ}
 use mathlib.Core.Bool.{not, cond}
@@ -20,4 +20,4 @@ headerRefusal image partition =
     (row 4 (ltb 1 (version image)) 0)))
 
 unfoldable pub openingOf : List ℕ → ℕ → Opened
-openingOf image partition = cond (eqb (refusal image partition) 0) (Open (record { size = length image }) (used image)) (Refused (refusal image partition))
+openingOf image partition = cond (eqb (refusal image partition) 0) (Open (used image)) (Refused (refusal image partition))

@@ -5,10 +5,10 @@ use words::same;
 ghost use mathlib.Core.Path.{_≡_};
 ghost use Rattle.partition.specs.Opening.{headerRefusal, openingOf};
 
-// The refusal's number, or the measures and how many user blocks are allocated.
+// The refusal's number, or how many user blocks are allocated.
 pub enum Opened {
     Refused(u8),
-    Open(Measures, usize),
+    Open(usize),
 }
 
 // Refusals 1 to 4, or 0.
@@ -43,5 +43,5 @@ pub fn open(image: &[u8], partition: u8) -> Opened
     let Sequence::Whole(used) = bitmap::sequence_of(image, m) else {
         return Opened::Refused(5);
     };
-    Opened::Open(m, used)
+    Opened::Open(used)
 }

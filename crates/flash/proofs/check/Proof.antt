@@ -25,7 +25,7 @@ returns-2 : tie.Need-returns-2
 returns-2 c =
     let a = c .before .before .before .before in
     let i = a .args .image .now in
-    let passed = opened-usable i (a .args .partition) _ _ (sym (c .before .before .«open» .ensures) ∙ c .enum-told .given .1) .0 in
+    let passed = opened-usable i (a .args .partition) _ (sym (c .before .before .«open» .ensures) ∙ c .enum-told .given .1) .0 in
     check-done i (a .args .partition) passed
 
 pub check-spec : {M : Type 1} → statement M

@@ -12,14 +12,18 @@ open-requires c κs = search needs
 enum-known-refused : tie.Need-enum-known-refused
 enum-known-refused c = search needs
 
-enum-known-m : tie.Need-enum-known-m
-enum-known-m c = search needs
+enum-known-used : tie.Need-enum-known-used
+enum-known-used c = search needs
+
+of-requires : tie.Need-of-requires
+of-requires c κs = search needs
 
 next-from-requires : tie.Need-next-from-requires
 next-from-requires c κs =
-    let a = c .before .before .before .before .before in
+    let u = c .before .before in
+    let a = u .before .before .before .before in
     let i = a .args .image .now in
-    opened-usable i (a .args .partition) _ _ (sym (c .before .before .before .«open» .ensures) ∙ c .before .m .given .1) .1
+    opened-usable i (a .args .partition) _ (sym (u .before .before .«open» .ensures) ∙ u .used .given .1) .1 _ (c .of .ensures)
 
 returns : tie.Need-returns
 returns c =
@@ -29,12 +33,13 @@ returns c =
 
 returns-2 : tie.Need-returns-2
 returns-2 c =
-    let a = c .before .before .before .before .before .before in
+    let u = c .before .before .before in
+    let a = u .before .before .before .before in
     let i = a .args .image .now in
-    let passed = opened-usable i (a .args .partition) _ _ (sym (c .before .before .before .before .«open» .ensures) ∙ c .before .before .m .given .1) .0 in
+    let passed = opened-usable i (a .args .partition) _ (sym (u .before .before .«open» .ensures) ∙ u .used .given .1) .0 in
     next-done i (a .args .partition) passed (a .args .from) _ (c .next-from .ensures)
 
 pub next-live-spec : {M : Type 1} → statement M
 next-live-spec =
     tie.close
-    (tie.spec open-requires enum-known-refused enum-known-m next-from-requires returns returns-2)
+    (tie.spec open-requires enum-known-refused enum-known-used of-requires next-from-requires returns returns-2)

@@ -45,8 +45,7 @@ returns-3 c =
     let q = u .before .before in
     let e = q .before .before in
     let a = e .before .before .before in
-    open-whole (a .args .image .now) (a .args .partition) (passed e) (q .before .of .result) (q .before .of .ensures) (u .used .given .0 .0)
-    (sym (q .sequence-of .ensures) ∙ u .used .given .1)
+    open-whole (a .args .image .now) (a .args .partition) (passed e) (u .used .given .0 .0) (sym (q .sequence-of .ensures) ∙ u .used .given .1)
 
 pub open-spec : {M : Type 1} → statement M
 open-spec =
