@@ -1,6 +1,6 @@
 -- Which numbers a row of blocks has, as a search for the next live number asks.
 -- Assumes nothing.
-use Prim.Native.Nat.{ℕ, _+_, _≤_, _<_}
+use Prim.Native.Nat.{ℕ, _+_, _%_, _^_, _≤_, _<_}
 use mathlib.Core.Path.{_≡_}
 use mathlib.Core.Bool.{true, _&&_}
 use mathlib.Core.List.{List}
@@ -14,8 +14,14 @@ pub record Clear (image : List ℕ) (start least from to : ℕ) : Type 0 where
 
 -- k is a used block and has the number.
 pub record Numbered (image : List ℕ) (used k n : ℕ) : Type 0 where
+  pub low : 1 ≤ k
   pub within : k ≤ used
   pub same : number (blockAt image k) ≡ n
+
+-- Where the blocks below k are passed: none is nearer to the start than `least`, and where that is below `span`, block `at` has it.
+pub record Nearest (image : List ℕ) (used start span k least at : ℕ) : Type 0 where
+  pub clear : Clear image start least 1 k
+  pub found : least < span → Numbered image used at ((least + start) % 2 ^ 16)
 
 -- Some user block below k has the number and a right checksum.
 pub record Seen (image : List ℕ) (k n : ℕ) : Type 0 where

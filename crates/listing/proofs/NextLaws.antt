@@ -1,5 +1,5 @@
 -- The lowest live number, as blocks are passed one after the other. Assumes nothing.
-use Prim.Native.Nat.{ℕ, _+_, _≤_, _<_}
+use Prim.Native.Nat.{ℕ, _+_, _-_, _%_, _^_, _≤_, _<_}
 use mathlib.Core.Path.{_≡_, refl, sym, ap, subst, _∙_}
 use mathlib.Core.Bool.{Bool, true, false, cond, _&&_, _||_, and-false, true≢false}
 use mathlib.Core.List.{List}
@@ -19,7 +19,7 @@ use Rattle.flash_model.proofs.MeasureLaws.{legal-below}
 use Rattle.flash_model.proofs.HolderLaws.{matches}
 use Rattle.flash_model.proofs.MeaningLaws.{next-live, live-none}
 use Rattle.partition.specs.Usable.{Usable}
-use Rattle.distances.specs.Numbers.{Clear, Numbered, Seen}
+use Rattle.distances.specs.Numbers.{Clear, Numbered, Nearest, Seen}
 use Rattle.listing.specs.Listing.{lowered, asNext}
 use Rattle.listing.specs.Best.{LeftOut, Best}
 use Rattle.partition.proofs.UsableLaws.{usable-measured, holder-some}
@@ -47,8 +47,14 @@ module _ (start best n : ℕ) (block : List ℕ) (e : number block ≡ n) where
 
 -- ---- all blocks passed so far
 
-pub seen-at : (image : List ℕ) (used k n : ℕ) → 1 ≤ k → Numbered image used k n → rightChecksum (blockAt image k) ≡ true → Seen image (used + 1) n
-seen-at image used k n lo h r = record { at = k; low = lo; below = omega (arith, h .within); here = rw (eq-eqb (number (blockAt image k)) n (h .same), r) }
+pub seen-at : (image : List ℕ) (used k n : ℕ) → Numbered image used k n → rightChecksum (blockAt image k) ≡ true → Seen image (used + 1) n
+seen-at image used k n h r = record { at = k; low = h .low; below = omega (arith, h .within); here = rw (eq-eqb (number (blockAt image k)) n (h .same), r) }
+
+-- a distance that does not lead past the top is that of a number
+pub numbered-near : (image : List ℕ) (used start end k least at : ℕ) → Nearest image used start (end - start) k least at → start + least < end → end ≤ 2 ^ 16 → Numbered image used at (start + least)
+numbered-near image used start end k least at n h t =
+    let number : (least + start) % 2 ^ 16 ≡ start + least = omega arith in
+    subst (Numbered image used at) number (n .found (omega arith))
 
 pub best-first : (image : List ℕ) (start end : ℕ) → Best image start end 1 end
 best-first image start end = record {
@@ -90,7 +96,7 @@ module _ (image : List ℕ) (start end k best : ℕ) (b : Best image start end k
   taken lo s l r = record {
     bound = omega (arith, l, b .bound);
     not-below = λ h. s;
-    is-seen = λ h. seen-at image k k (number (blockAt image k)) lo (record { within = omega arith; same = refl }) r;
+    is-seen = λ h. seen-at image k k (number (blockAt image k)) (record { low = lo; within = omega arith; same = refl }) r;
     none-lower = λ n j a c d e. go n j a c d e (ℕ-discrete j k);
   }
     where
@@ -135,6 +141,14 @@ module _ (image : List ℕ) (start end k least : ℕ) (c : Clear image start lea
     is-seen = λ l. absurd (omega arith);
     none-lower = λ n j a b lo hi. nearer-none image start 1 k least c n j a (omega arith) lo hi;
   }
+
+-- the best is not below the start
+pub best-from : (image : List ℕ) (start end k best : ℕ) → Best image start end k best → start ≤ end → start ≤ best
+best-from image start end k best b h = go (decLe end best)
+  where
+    go : Dec (end ≤ best) → start ≤ best
+    go (yes y) = omega arith
+    go (no n) = b .not-below (omega arith)
 
 -- blocks from k on, none of which has a number that is lower than the best
 pub best-passed : (image : List ℕ) (start end k best : ℕ) (b : Best image start end k best) (to least : ℕ) → Clear image start least k to → best ≤ start + least → k ≤ to

@@ -1,7 +1,6 @@
 // One pass over the used blocks for whatever looks at all numbers.
 mod lowering;
 
-use distances::first_of_eight;
 use distances::nearest;
 use lowering::lower_eight;
 use lowering::lower_in;
@@ -198,14 +197,13 @@ pub fn next_number(image: &[u8], m: Measures, used: usize, start: usize) -> Next
     if end <= start {
         return Next::Nothing;
     }
-    let near = nearest(image, m, used, start as u16);
+    let near = nearest(image, m, used, start as u16, (end - start) as u16);
     let number = start + near.least as usize;
     if end <= number {
         return Next::Nothing;
     }
-    let k = first_of_eight(image, m, used, near.at, number);
-    if (0 < k) && right_checksum(part_from(image, m, k)) {
+    if right_checksum(part_from(image, m, near.at)) {
         return Next::Number(number);
     }
-    lowest_right(image, m, used, start, k)
+    lowest_right(image, m, used, start, near.at)
 }

@@ -1,5 +1,5 @@
 // The lowest right number from a start on, as blocks are passed. A checksum is worked only where the number would be the new best.
-use distances::least_of_eight;
+use distances::nearer_in_eight;
 use measures::Measures;
 use partition::blocks::part_from;
 use partition::blocks::right_checksum;
@@ -65,11 +65,12 @@ pub fn lower_eight(
     wrong: usize,
 ) -> usize
     requires { ⌜ Over (now image) (m .size) ⌝ }
-    requires { ⌜ (1 ≤ k) × (k + 7 ≤ capacity (m .size)) × (start < capacity (m .size)) ⌝ }
+    requires { ⌜ (1 ≤ k) × (k + 7 ≤ capacity (m .size)) ⌝ }
+    requires { ⌜ (start ≤ best) × (best ≤ capacity (m .size)) ⌝ }
     requires { ⌜ LeftOut (now image) wrong ⌝ }
     ensures { λ r. ⌜ ((end : ℕ) → Best (now (image .entry)) start end k best → Best (now (image .entry)) start end (k + 8) r) ⌝ }
 {
-    if best <= start + least_of_eight(image, m, k, start as u16) as usize {
+    if !nearer_in_eight(image, m, k, start as u16, (best - start) as u16) {
         return best;
     }
     lower_in(image, m, k, k + 8, start, best, wrong)

@@ -1,9 +1,10 @@
 -- `listing::lowest_right` meets its contract. The loop's invariant: the best so far of the blocks passed. Assumes nothing.
 use Prim.Native.Nat.{_+_, _-_, _≤_}
 use native.Mathlib.Omega.{arith}
+use Rattle.flash_model.specs.Measures.{capacity}
 use Rattle.partition.proofs.UsableLaws.{usable-legal, usable-over, usable-measured, count-most}
 use Rattle.listing.specs.Best.{Best}
-use Rattle.listing.proofs.NextLaws.{best-first, next-is, next-none}
+use Rattle.listing.proofs.NextLaws.{best-first, best-from, next-is, next-none}
 use Rattle.listing.proofs.lowest_right.Statement.{statement}
 use Rattle.listing.proofs.lowest_right.Tie as tie
 
@@ -31,10 +32,13 @@ add-loop c =
 
 lower-eight-requires : tie.Need-lower-eight-requires Inv-loop μ-loop
 lower-eight-requires c κs =
-    let a = c .before .before .before .before in
-    let i = a .args .image .now in (
+    let l = c .before in
+    let a = l .before .before .before in
+    let i = a .args .image .now in
+    let from = best-from i (a .args .start) (l .before .capacity .result) (l .loop .k) (l .loop .best) (l .loop .inv .2) (omega (arith, a .pre .1 .0, l .before .capacity .ensures)) in
+    let most : l .loop .best ≤ capacity (a .args .m .size) = omega (arith, l .loop .inv .2 .bound, l .before .capacity .ensures) in (
       usable-over i (a .args .m .size) (a .args .used) (a .pre .0),
-      ((omega arith, omega (arith, count-most i (a .args .m .size) (a .args .used) (a .pre .0)), a .pre .1 .0), a .pre .1 .1),
+      ((omega arith, omega (arith, count-most i (a .args .m .size) (a .args .used) (a .pre .0))), ((from, most), a .pre .1 .1)),
     )
 
 add-k : tie.Need-add-k Inv-loop μ-loop

@@ -1,17 +1,25 @@
 -- `listing::next_number` meets its contract: no number is nearer than the one found, and that one is live, or the pass with all
 -- checksums answers. Assumes nothing.
 use Prim.Native.Nat.{_+_}
-use mathlib.Core.Path.{_≡_, sym, ap, _∙_}
-use mathlib.Core.Bool.{false}
-use mathlib.Core.Logic.{⊎-elim}
+use mathlib.Core.Path.{sym, ap, _∙_}
 use native.Mathlib.Omega.{arith}
 use Rattle.flash_model.specs.UserBlock.{rightChecksum}
-use Rattle.flash_model.specs.Partition.{blockAt}
+use Rattle.distances.specs.Numbers.{Numbered}
 use Rattle.partition.proofs.UsableLaws.{usable-legal, usable-over, usable-measured, count-most}
-use Rattle.listing.proofs.NextLaws.{seen-at, best-near, best-far, next-past, next-is, next-none}
+use Rattle.listing.proofs.NextLaws.{seen-at, numbered-near, best-near, best-far, next-past, next-is, next-none}
 use borrow.Author.Needs.{needs}
 use Rattle.listing.proofs.next_number.Statement.{statement}
 use Rattle.listing.proofs.next_number.Tie as tie
+
+-- the block found has the number
+near : (e : tie.Else2) → Numbered (e .before .before .before .before .before .before .args .image .now) (e .before .before .before .before .before .before .args .used)
+    (e .before .before .nearest .result .at) (e .before .before .before .before .before .before .args .start + e .before .before .nearest .result .least)
+near e =
+    let f = e .before .before in
+    let n = f .before .before in
+    let a = n .before .before in
+    let small = usable-measured (a .args .image .now) (a .args .m .size) (a .args .used) (a .pre) .two-bytes in
+    numbered-near _ _ _ (n .capacity .result) (a .args .used + 1) _ _ (f .nearest .ensures) (e .if2 .left) (omega (arith, n .capacity .ensures, small))
 
 capacity-requires : tie.Need-capacity-requires
 capacity-requires c κs =
@@ -25,6 +33,15 @@ returns c =
 
 cast-nearest : tie.Need-cast-nearest
 cast-nearest c =
+    let n = c .before in
+    let a = n .before .before in
+    omega (arith, n .capacity .ensures, usable-measured (a .args .image .now) (a .args .m .size) (a .args .used) (a .pre) .two-bytes)
+
+sub-nearest : tie.Need-sub-nearest
+sub-nearest c = search needs
+
+cast-nearest-2 : tie.Need-cast-nearest-2
+cast-nearest-2 c =
     let n = c .before in
     let a = n .before .before in
     omega (arith, n .capacity .ensures, usable-measured (a .args .image .now) (a .args .m .size) (a .args .used) (a .pre) .two-bytes)
@@ -48,22 +65,15 @@ returns-2 c =
     let f = c .before .before in
     let n = f .before .before in
     let a = n .before .before in
-    let b = best-far (a .args .image .now) (a .args .start) (n .capacity .result) (a .args .used + 1) (f .nearest .result .least) (f .nearest .ensures .0) (c .if2 .taken) in
+    let b = best-far (a .args .image .now) (a .args .start) (n .capacity .result) (a .args .used + 1) (f .nearest .result .least) (f .nearest .ensures .clear) (c .if2 .taken) in
     next-none (a .args .image .now) (a .args .m .size) (a .args .used) (a .pre) (n .capacity .result) (n .capacity .ensures) (a .args .start) (a .args .used + 1) (n .capacity .result)
     (omega arith) b (omega arith)
 
-first-of-eight-requires : tie.Need-first-of-eight-requires
-first-of-eight-requires c κs =
-    let f = c .before .before in
-    let a = f .before .before .before .before in
-    (usable-over (a .args .image .now) (a .args .m .size) (a .args .used) (a .pre), (count-most (a .args .image .now) (a .args .m .size) (a .args .used) (a .pre), f .nearest .ensures .1 .1))
-
 part-from-requires : tie.Need-part-from-requires
 part-from-requires c κs =
-    let s = c .before in
-    let a = s .before .before .before .before .before .before .before in (
+    let a = c .before .before .before .before .before .before in (
       usable-over (a .args .image .now) (a .args .m .size) (a .args .used) (a .pre),
-      omega (arith, s .first-of-eight .ensures (c .if3 .taken) .within, count-most (a .args .image .now) (a .args .m .size) (a .args .used) (a .pre)),
+      omega (arith, near c .within, count-most (a .args .image .now) (a .args .m .size) (a .args .used) (a .pre)),
     )
 
 right-checksum-requires : tie.Need-right-checksum-requires
@@ -72,29 +82,22 @@ right-checksum-requires c κs = c .part-from .ensures .1
 returns-3 : tie.Need-returns-3
 returns-3 c =
     let p = c .before .before in
-    let s = p .before .before in
-    let f = s .before .before .before in
+    let e = p .before in
+    let f = e .before .before in
     let n = f .before .before in
     let a = n .before .before in
-    let right = ap rightChecksum (sym (p .part-from .ensures .0)) ∙ sym (c .before .right-checksum .ensures) ∙ c .if4 .taken in
-    let seen = seen-at (a .args .image .now) (a .args .used) (s .first-of-eight .result) _ (p .before .if3 .taken) (s .first-of-eight .ensures (p .before .if3 .taken)) right in
-    let b = best-near (a .args .image .now) (a .args .start) (n .capacity .result) (a .args .used + 1) (f .nearest .result .least) (f .nearest .ensures .0) (s .before .if2 .left) seen in
+    let right = ap rightChecksum (sym (p .part-from .ensures .0)) ∙ sym (c .before .right-checksum .ensures) ∙ c .if3 .taken in
+    let seen = seen-at (a .args .image .now) (a .args .used) (f .nearest .result .at) _ (near e) right in
+    let b = best-near (a .args .image .now) (a .args .start) (n .capacity .result) (a .args .used + 1) (f .nearest .result .least) (f .nearest .ensures .clear) (e .if2 .left) seen in
     next-is (a .args .image .now) (a .args .m .size) (a .args .used) (a .pre) (n .capacity .result) (n .capacity .ensures) (a .args .start) (a .args .used + 1)
-    (a .args .start + f .nearest .result .least) (omega arith) b (s .before .if2 .left)
+    (a .args .start + f .nearest .result .least) (omega arith) b (e .if2 .left)
 
 lowest-right-requires : tie.Need-lowest-right-requires
 lowest-right-requires c κs =
-    let n = c .before .before .before .before .before .before in
-    let a = n .before .before in (
-      a .pre,
-      (
-        omega arith,
-        record {
-          wrong = λ low. ⊎-elim {C = rightChecksum (blockAt (a .args .image .now) (c .before .first-of-eight .result)) ≡ false}
-              (λ w. ap rightChecksum (sym (w .1 .ensures .0)) ∙ sym (w .2 .ensures) ∙ w .3 .left) (λ w. absurd (omega (arith, low, w .left))) (c .if3 .came);
-        },
-      ),
-    )
+    let p = c .before .before in
+    let n = p .before .before .before .before .before in
+    let a = n .before .before in
+    (a .pre, (omega arith, record { wrong = λ _. ap rightChecksum (sym (p .part-from .ensures .0)) ∙ sym (c .before .right-checksum .ensures) ∙ c .if3 .left }))
 
 returns-4 : tie.Need-returns-4
 returns-4 c = search needs
@@ -106,11 +109,12 @@ next-number-spec =
     capacity-requires
     returns
     cast-nearest
+    sub-nearest
+    cast-nearest-2
     nearest-requires
     cast-number
     add-number
     returns-2
-    first-of-eight-requires
     part-from-requires
     right-checksum-requires
     returns-3
