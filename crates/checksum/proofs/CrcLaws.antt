@@ -15,7 +15,7 @@ use Rattle.loads.specs.BigEndian.{Word}
 use Rattle.loads.specs.LittleEndian.{Little}
 use Rattle.loads.proofs.LittleLaws.{little-lt as word-below}
 use Rattle.checksum.specs.Crc.{shift, shifts, takes, crcFrom, checksumOf}
-use Rattle.checksum.specs.Polynomial.{rem, remLittle, behindStart}
+use Rattle.checksum.specs.Polynomial.{rem, remLittle, behind}
 use Rattle.checksum.proofs.XorLaws.{xor-assoc, xor-ones}
 use Rattle.checksum.proofs.XorSolver.{var, both, solve}
 use Rattle.checksum.proofs.ShiftLaws.{shifts-lt, shifts-xor, shifts-add, shifts-swap}
@@ -114,48 +114,48 @@ pub start-word : shifts 16 (rem 64 33999) ≡ 65535
 unfolding rem shift
 start-word = start
 
--- ---- words loaded little endian, with 33999 in front of them all
+-- ---- words loaded little endian, with a start in front of them all
 
-pub start-little : (s : List ℕ) → crcFrom 65535 s ≡ crcFrom (shifts 16 (behindStart 0 0)) (drop 0 s)
-unfolding behindStart shifts
+pub start-little : (s : List ℕ) → crcFrom 65535 s ≡ crcFrom (shifts 16 (behind 33999 0 0)) (drop 0 s)
+unfolding behind shifts
 start-little s = ap (λ (x : ℕ). crcFrom x s) (sym start)
 
-started-lt : (k : ℕ) → shifts k 33999 < 65536
-started-lt k = shifts-lt k 33999 (lit< tt)
+module _ (f : ℕ) (small : f < 65536) where
+  started-lt : (k : ℕ) → shifts k f < 65536
+  started-lt k = shifts-lt k f small
 
--- t is x with a word behind it
-pub crc-behind : (n k : ℕ) {s : List ℕ} {at w : ℕ} (x t : ℕ) → x < 65536 → t ≡ bitXor (shifts (n * 8) x) (remLittle n w) → Little n s at w → at + n ≤ length s
-    → crcFrom (shifts 16 (behindStart k x)) (drop at s) ≡ crcFrom (shifts 16 (behindStart (n * 8 + k) t)) (drop (at + n) s)
-unfolding behindStart
-crc-behind n k {s} {at} {w} x t h e known long =
-    let f = shifts k 33999 in
-    let front = shifts (n * 8) f in
-    let moved = shifts (n * 8) x in
-    crc-little n (bitXor x f) (xor-lt 16 x f h (started-lt k)) known long
-    ∙ ap (λ (y : ℕ). crcFrom (shifts 16 y) (drop (at + n) s))
-    (ap (λ (y : ℕ). bitXor y (remLittle n w)) (shifts-xor (n * 8) x f h (started-lt k))
-    ∙ solve (moved ∷ front ∷ remLittle n w ∷ []) (both (both (var 0) (var 1)) (var 2)) (both (both (var 0) (var 2)) (var 1)) refl
-    ∙ ap₂ bitXor (sym e) (sym (shifts-add (n * 8) k 33999)))
+  -- t is x with a word behind it
+  pub crc-behind : (n k : ℕ) {s : List ℕ} {at w : ℕ} (x t : ℕ) → x < 65536 → t ≡ bitXor (shifts (n * 8) x) (remLittle n w) → Little n s at w → at + n ≤ length s
+      → crcFrom (shifts 16 (behind f k x)) (drop at s) ≡ crcFrom (shifts 16 (behind f (n * 8 + k) t)) (drop (at + n) s)
+  unfolding behind
+  crc-behind n k {s} {at} {w} x t h e known long =
+      let front = shifts (n * 8) (shifts k f) in
+      let moved = shifts (n * 8) x in
+      crc-little n (bitXor x (shifts k f)) (xor-lt 16 x (shifts k f) h (started-lt k)) known long
+      ∙ ap (λ (y : ℕ). crcFrom (shifts 16 y) (drop (at + n) s))
+      (ap (λ (y : ℕ). bitXor y (remLittle n w)) (shifts-xor (n * 8) x (shifts k f) h (started-lt k))
+      ∙ solve (moved ∷ front ∷ remLittle n w ∷ []) (both (both (var 0) (var 1)) (var 2)) (both (both (var 0) (var 2)) (var 1)) refl
+      ∙ ap₂ bitXor (sym e) (sym (shifts-add (n * 8) k f)))
 
--- six bytes where the bytes end: 16 shifts stand behind them, and t is x with all that behind it
-pub crc-last : (k : ℕ) {s : List ℕ} {at w : ℕ} (x t : ℕ) → x < 65536 → t ≡ bitXor (shifts 64 x) (remLittle 8 w) → Little 6 s at w → length s ≡ at + 6
-    → crcFrom (shifts 16 (behindStart k x)) (drop at s) ≡ behindStart (64 + k) t
-unfolding behindStart
-crc-last k {s} {at} {w} x t h e known end =
-    let y = bitXor (shifts 48 x) (remLittle 6 w) in
-    let hy : y < 65536 = xor-lt 16 (shifts 48 x) (remLittle 6 w) (shifts-lt 48 x h) (little-lt 6 w) in
-    let width : 16 + (48 + k) ≡ 64 + k = omega arith in
-    crc-behind 6 k x y h refl known (omega arith)
-    ∙ crc-end (shifts 16 (behindStart (48 + k) y)) (at + 6) s (omega arith)
-    ∙ shifts-xor 16 y (shifts (48 + k) 33999) hy (started-lt (48 + k))
-    ∙ ap₂ bitXor
-    (shifts-xor 16 (shifts 48 x) (remLittle 6 w) (shifts-lt 48 x h) (little-lt 6 w)
-    ∙ ap₂ bitXor (sym (shifts-add 16 48 x)) (sym (little-more 6 2 w (word-below 6 known))) ∙ sym e)
-    (sym (shifts-add 16 (48 + k) 33999) ∙ ap (λ (n : ℕ). shifts n 33999) width)
+  -- six bytes where the bytes end: 16 shifts stand behind them, and t is x with all that behind it
+  pub crc-last : (k : ℕ) {s : List ℕ} {at w : ℕ} (x t : ℕ) → x < 65536 → t ≡ bitXor (shifts 64 x) (remLittle 8 w) → Little 6 s at w → length s ≡ at + 6
+      → crcFrom (shifts 16 (behind f k x)) (drop at s) ≡ behind f (64 + k) t
+  unfolding behind
+  crc-last k {s} {at} {w} x t h e known end =
+      let y = bitXor (shifts 48 x) (remLittle 6 w) in
+      let hy : y < 65536 = xor-lt 16 (shifts 48 x) (remLittle 6 w) (shifts-lt 48 x h) (little-lt 6 w) in
+      let width : 16 + (48 + k) ≡ 64 + k = omega arith in
+      crc-behind 6 k x y h refl known (omega arith)
+      ∙ crc-end (shifts 16 (behind f (48 + k) y)) (at + 6) s (omega arith)
+      ∙ shifts-xor 16 y (shifts (48 + k) f) hy (started-lt (48 + k))
+      ∙ ap₂ bitXor
+      (shifts-xor 16 (shifts 48 x) (remLittle 6 w) (shifts-lt 48 x h) (little-lt 6 w)
+      ∙ ap₂ bitXor (sym (shifts-add 16 48 x)) (sym (little-more 6 2 w (word-below 6 known))) ∙ sym e)
+      (sym (shifts-add 16 (48 + k) f) ∙ ap (λ (n : ℕ). shifts n f) width)
 
--- 33999 leaves 51675 behind 512 digits, and the whole is inverted
-pub end-block : (s : List ℕ) (x : ℕ) → x < 65536 → crcFrom 65535 s ≡ behindStart 512 x → bitXor x 13860 ≡ checksumOf s
-unfolding checksumOf behindStart shifts shift
+-- 6642 leaves FFFF behind 512 digits, which the inversion at the end takes off
+pub end-block : (s : List ℕ) (x : ℕ) → x < 65536 → crcFrom 65535 s ≡ behind 6642 512 x → x ≡ checksumOf s
+unfolding checksumOf behind shifts shift
 end-block s x h e =
-    let n = bitXor x 51675 in
-    sym (ap (λ (y : ℕ). 65535 - y) e ∙ xor-ones 16 n (xor-lt 16 x 51675 h (lit< tt)) ∙ xor-assoc x 51675 65535)
+    let n = bitXor x 65535 in
+    sym (ap (λ (y : ℕ). 65535 - y) e ∙ xor-ones 16 n (xor-lt 16 x 65535 h (lit< tt)) ∙ xor-assoc x 65535 65535 ∙ xor-zero-r x)

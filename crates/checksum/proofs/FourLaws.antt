@@ -10,8 +10,8 @@ use lib.Dec.{lit<}
 use lib.Bits.{bitXor, xor-lt, xor-mod, xor-zero-r}
 use lib.ListN.{length, drop}
 use Rattle.loads.specs.LittleEndian.{Little}
-use Rattle.checksum.specs.Crc.{shifts, crcFrom}
-use Rattle.checksum.specs.Polynomial.{rem, remLittle, remTwo, remThree, remFour, behindStart}
+use Rattle.checksum.specs.Crc.{shift, shifts, crcFrom}
+use Rattle.checksum.specs.Polynomial.{rem, remLittle, remTwo, remThree, remFour, behind}
 use Rattle.checksum.proofs.XorLaws.{xor-shl}
 use Rattle.checksum.proofs.XorSolver.{var, both, solve}
 use Rattle.checksum.proofs.ShiftLaws.{shifts-lt, shifts-xor, shifts-add, shifts-zero}
@@ -146,12 +146,23 @@ four-last a b c d t u v w x y f once twice ex ef ey =
     rem-xor 64 f y ∙ ap₂ bitXor (ef ∙ ap (shifts 64) ex) ey ∙ twice ∙ ap (λ (z : ℕ). bitXor (shifts 64 z) (remLittle 8 d)) once
 
 pub four-first : (s : List ℕ) (a b c d : ℕ) → Little 8 s 0 a → Little 8 s 8 b → Little 8 s 16 c → Little 8 s 24 d → 32 ≤ length s
-    → crcFrom 65535 s ≡ crcFrom (shifts 16 (behindStart 256 (remFour a b c d))) (drop 32 s)
+    → crcFrom 65535 s ≡ crcFrom (shifts 16 (behind 33999 256 (remFour a b c d))) (drop 32 s)
 unfolding remTwo remThree remFour
 four-first s a b c d wa wb wc wd long =
     let front : remLittle 8 a ≡ bitXor (shifts 64 0) (remLittle 8 a) = sym (ap (λ (x : ℕ). bitXor x (remLittle 8 a)) (shifts-zero 64)) in
     start-little s
-    ∙ crc-behind 8 0 0 (remLittle 8 a) (lit< tt) front wa (omega arith)
-    ∙ crc-behind 8 64 (remLittle 8 a) (remTwo a b) (little-lt 8 a) refl wb (omega arith)
-    ∙ crc-behind 8 128 (remTwo a b) (remThree a b c) (two-lt a b) refl wc (omega arith)
-    ∙ crc-behind 8 192 (remThree a b c) (remFour a b c d) (three-lt a b c) refl wd long
+    ∙ crc-behind 33999 (lit< tt) 8 0 0 (remLittle 8 a) (lit< tt) front wa (omega arith)
+    ∙ crc-behind 33999 (lit< tt) 8 64 (remLittle 8 a) (remTwo a b) (little-lt 8 a) refl wb (omega arith)
+    ∙ crc-behind 33999 (lit< tt) 8 128 (remTwo a b) (remThree a b c) (two-lt a b) refl wc (omega arith)
+    ∙ crc-behind 33999 (lit< tt) 8 192 (remThree a b c) (remFour a b c d) (three-lt a b c) refl wd long
+
+-- 18825 in the first word makes 6642 of the start
+pub four-started : (a b c d : ℕ) → behind 33999 256 (remFour a b c d) ≡ behind 6642 256 (remFour (bitXor a 18825) b c d)
+unfolding behind shifts shift remLittle
+four-started a b c d =
+    ap (λ (x : ℕ). bitXor x 10821) (four-sum a b c d)
+    ∙ solve (up 192 a ∷ up 128 b ∷ up 64 c ∷ remLittle 8 d ∷ up 192 18825 ∷ shifts 256 6642 ∷ [])
+    (both (both (both (both (var 0) (var 1)) (var 2)) (var 3)) (both (var 4) (var 5)))
+    (both (both (both (both (both (var 0) (var 4)) (var 1)) (var 2)) (var 3)) (var 5)) refl
+    ∙ ap (λ (x : ℕ). bitXor (bitXor (bitXor (bitXor x (up 128 b)) (up 64 c)) (remLittle 8 d)) (shifts 256 6642)) (sym (up-xor 192 a 18825))
+    ∙ ap (λ (x : ℕ). bitXor x (shifts 256 6642)) (sym (four-sum (bitXor a 18825) b c d))

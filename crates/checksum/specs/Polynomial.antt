@@ -26,6 +26,6 @@ remThree a b c = bitXor (shifts 64 (remTwo a b)) (remLittle 8 c)
 unfoldable pub remFour : ℕ → ℕ → ℕ → ℕ → ℕ
 remFour a b c d = bitXor (shifts 64 (remThree a b c)) (remLittle 8 d)
 
--- the remainder x of k digits behind 33999, which 16 shifts make FFFF
-unfoldable pub behindStart : ℕ → ℕ → ℕ
-behindStart k x = bitXor x (shifts k 33999)
+-- the remainder x of k digits behind the start f
+unfoldable pub behind : ℕ → ℕ → ℕ → ℕ
+behind f k x = bitXor x (shifts k f)

@@ -128,13 +128,13 @@ fn load_page(number: u16, page: &[u8]) -> Eight
     }
 }
 
-// The checksum of these words: seven, and six bytes that 16 shifts stand behind. FFFF at the start leaves 51675 behind so many
-// digits, whatever they are; 13860 is that inverted.
+// The checksum of these words: seven, and six bytes that 16 shifts stand behind. 18825 in the first of them does what FFFF at the
+// start and the inversion at the end do to so many digits, whatever they are.
 fn of_eight(w: Eight) -> u16
     ensures { λ r. ⌜ ((s : List ℕ) → Loaded s w → r ≡ checksumOf s) ⌝ }
 {
     let f3 = Four {
-        a: w.a,
+        a: w.a ^ 18825,
         b: w.b,
         c: w.c,
         d: w.d,
@@ -142,7 +142,7 @@ fn of_eight(w: Eight) -> u16
     let f4 = step(f3, w.e);
     let f5 = step(f4, w.f);
     let f6 = step(f5, w.g);
-    last(step(f6, w.h)) ^ 13860
+    last(step(f6, w.h))
 }
 
 // The checksum of 62 bytes.
