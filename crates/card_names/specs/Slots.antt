@@ -1,9 +1,10 @@
 -- A hash table of the listed names: a shortcut of the searches for a name, and no part of what they mean.
 -- Assumes nothing.
-use Prim.Native.Nat.{ℕ, suc, _+_, _*_, _/_, _%_, _≤_, _<_}
+use Prim.Native.Nat.{ℕ, suc, _+_, _-_, _*_, _/_, _%_, _^_, _≤_, _<_}
 use mathlib.Core.Path.{_≡_}
 use mathlib.Core.List.{List}
 use lib.ListN.{length, getD}
+use lib.Bits.{bitXor}
 use Rattle.words.specs.Words.{word}
 use Rattle.card_model.specs.Entries.{nameOf, entryAt}
 use Rattle.card_directory.specs.Listed.{Listed}
@@ -12,9 +13,17 @@ use Rattle.card_directory.specs.Listed.{Listed}
 unfoldable pub quad : List ℕ → ℕ → ℕ
 quad name i = word name i + 65536 * word name (i + 2)
 
+-- The 32 binary digits of x turned left by k.
+abbrev pub turned : ℕ → ℕ → ℕ
+turned k x = bitXor (x * 2 ^ k % 2 ^ 32) (x / 2 ^ (32 - k))
+
+-- Three parts in one.
+unfoldable pub mixed : ℕ → ℕ → ℕ → ℕ
+mixed a b c = bitXor (bitXor a (turned 9 b)) (turned 19 c)
+
 -- Any function of the name would do, since names of the same slot are compared.
 unfoldable pub slotOf : List ℕ → ℕ
-slotOf name = (747796405 * quad name 0 + 843314857 * quad name 4 + 668265263 * quad name 8) / 16777216 % 2048
+slotOf name = 747796405 * mixed (quad name 0) (quad name 4) (quad name 8) / 16777216 % 2048
 
 -- The name of number j of the list, and its slot.
 abbrev pub nameAt : List (List ℕ) → List ℕ → ℕ → List ℕ

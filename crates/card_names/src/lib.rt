@@ -31,14 +31,24 @@ fn quad(name: &[u8], i: usize) -> usize
     word(name, i) + 65536 * word(name, i + 2)
 }
 
-// The slot of a name. The factors are below 2^30, so that the sum fits, and the middle of the sum depends on every byte, so that
-// similar names seldom have the same slot.
+// The parts of a name in one. Each is turned by another amount, so that digits that differ at the same place of two parts do not
+// cancel.
+fn mixed(a: u32, b: u32, c: u32) -> u32
+    ensures { λ r. ⌜ r ≡ table.mixed a b c ⌝ }
+{
+    a ^ ((b << 9) ^ (b >> 23)) ^ ((c << 19) ^ (c >> 13))
+}
+
+// The slot of a name, by one multiplication: the middle of the product depends on every bit, so that similar names seldom have
+// the same slot. The factor is below 2^30, so that the product fits.
 fn slot_of(name: &[u8]) -> usize
     requires { ⌜ length (now name) ≡ 12 ⌝ }
     ensures { λ r. ⌜ (r ≡ table.slotOf (now (name .entry))) × (r < 2048) ⌝ }
 {
-    let sum = 747796405 * quad(name, 0) + 843314857 * quad(name, 4) + 668265263 * quad(name, 8);
-    sum / 16777216 % 2048
+    let a = quad(name, 0) as u32;
+    let b = quad(name, 4) as u32;
+    let c = quad(name, 8) as u32;
+    747796405 * (mixed(a, b, c) as usize) / 16777216 % 2048
 }
 
 // The slot of an entry's name.

@@ -8,26 +8,29 @@ use Rattle.card_names.proofs.slot_of.Tie as tie
 quad-requires : tie.Need-quad-requires
 quad-requires c κs = search needs
 
-mul-sum : tie.Need-mul-sum
-mul-sum c = search needs
+cast-a : tie.Need-cast-a
+cast-a c = search needs
 
 quad-requires-2 : tie.Need-quad-requires-2
 quad-requires-2 c κs = search needs
 
-mul-sum-2 : tie.Need-mul-sum-2
-mul-sum-2 c = search needs
-
-add-sum : tie.Need-add-sum
-add-sum c = search needs
+cast-b : tie.Need-cast-b
+cast-b c = search needs
 
 quad-requires-3 : tie.Need-quad-requires-3
 quad-requires-3 c κs = search needs
 
-mul-sum-3 : tie.Need-mul-sum-3
-mul-sum-3 c = search needs
+cast-c : tie.Need-cast-c
+cast-c c = search needs
 
-add-sum-2 : tie.Need-add-sum-2
-add-sum-2 c = search needs
+mixed-requires : tie.Need-mixed-requires
+mixed-requires c κs = search needs
+
+cast-result : tie.Need-cast-result
+cast-result c = search needs
+
+mul-result : tie.Need-mul-result
+mul-result c = search needs
 
 returns : tie.Need-returns
 unfolding slotOf
@@ -38,11 +41,12 @@ slot-of-spec =
     tie.close
     (tie.spec
     quad-requires
-    mul-sum
+    cast-a
     quad-requires-2
-    mul-sum-2
-    add-sum
+    cast-b
     quad-requires-3
-    mul-sum-3
-    add-sum-2
+    cast-c
+    mixed-requires
+    cast-result
+    mul-result
     returns)
