@@ -1,6 +1,6 @@
-"""Prints the lines that crates/flash_runs or crates/flash_refusals must print, by its argument, `runs` or `refusals`. They
-come from a model of a flash partition written from document 01 alone: an image is a bytearray, block checksums are
-Python's own CRC, and the sums of whole images are zlib's Adler-32."""
+"""Prints the lines that a program must print, by its argument: with `runs` those of crates/flash_runs, and so on. They come
+from a model of a flash partition written from document 01 alone: an image is a bytearray, block checksums are Python's
+own CRC, and the sums of whole images are zlib's Adler-32."""
 import binascii
 import sys
 import zlib
@@ -351,22 +351,28 @@ def stages(length, partition):
 def refusals():
     refused_images()
     refused_reads()
+
+
+def later_refusals():
     refused_listings()
     other_partition()
     refused_saves()
 
 
-def runs():
+def saves():
     two_writers()
     all_live()
     stale_copies()
     spoiled_block()
+
+
+def runs():
     for length, partition in ((16384, 2), (32768, 3), (65536, 4)):
         stages(length, partition)
 
 
 def main():
-    programs = {"refusals": refusals, "runs": runs}
+    programs = {"refusals": refusals, "refused_saves": later_refusals, "saves": saves, "runs": runs}
     if len(sys.argv) != 2 or sys.argv[1] not in programs:
         sys.exit(f"usage: flash_runs.py {' | '.join(programs)}")
     programs[sys.argv[1]]()

@@ -1,15 +1,7 @@
-// Runs the calls on flash partitions and prints what they answer: two writers, both ways of a save, then each length filled,
-// saved over and erased. tests/vectors/flash_runs.py prints the same lines from a model of its own; they are the file stdout
-// beside src/.
-mod saves;
+// Runs the calls on flash partitions and prints what they answer: each length filled, saved over and erased.
+// tests/vectors/flash_runs.py prints the same lines from a model of its own; they are the file stdout beside src/.
 mod stages;
 
 fn main() {
-    let mut image = [0u8; 32768];
-    saves::two_writers(&mut image);
-    saves::all_live(&mut image);
-    saves::stale_copies_saved(&mut image);
-    saves::stale_copies_erased(&mut image);
-    saves::spoiled_block(&mut image);
     stages::lengths();
 }
