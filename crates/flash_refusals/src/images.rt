@@ -1,8 +1,7 @@
 // Images that are refused, and numbers, each beside the nearest thing that is not.
+use printing::checked;
+use printing::saved;
 use scenarios::pages::format;
-use scenarios::printing;
-use scenarios::printing::checked;
-use scenarios::printing::saved;
 
 pub(crate) fn lengths() {
     let mut less = [0u8; 16383];

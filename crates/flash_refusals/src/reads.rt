@@ -1,8 +1,7 @@
 // Reads that are refused, each beside the nearest that is not.
+use printing::read;
 use scenarios::pages::format;
 use scenarios::pages::save_round;
-use scenarios::printing;
-use scenarios::printing::read;
 
 // Two lines: what a read answers, and whether it changed the page.
 fn read_page(label: &[u8], image: &[u8], partition: u8, number: usize) {

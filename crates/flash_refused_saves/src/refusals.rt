@@ -1,11 +1,10 @@
 // Listings, saves and erases that are refused, each beside the nearest that is not.
+use printing::answer;
+use printing::next_live;
+use printing::saved;
 use scenarios::pages::format;
 use scenarios::pages::page_of;
 use scenarios::pages::save_round;
-use scenarios::printing;
-use scenarios::printing::answer;
-use scenarios::printing::next_live;
-use scenarios::printing::saved;
 
 pub(crate) fn next_numbers(image: &mut [u8; 32768]) {
     format(image, 3, 1);

@@ -1,10 +1,9 @@
 // One partition from empty to full, saved over and erased. Each stage is a line.
 use flash::LiveNumber;
+use printing::number;
+use printing::text;
 use scenarios::pages::format;
 use scenarios::pages::save_numbers;
-use scenarios::printing;
-use scenarios::printing::number;
-use scenarios::printing::text;
 
 // The numbers below this are saved again. On a full partition more of them would take long.
 const AGAIN: usize = 100;

@@ -1,13 +1,12 @@
 // Accepted saves: two writers, and both ways, by append and by compaction.
+use printing::answer;
+use printing::read;
+use printing::saved;
 use scenarios::pages::format;
 use scenarios::pages::save_numbers;
 use scenarios::pages::save_round;
 use scenarios::pages::save_rounds;
 use scenarios::pages::save_seen;
-use scenarios::printing;
-use scenarios::printing::answer;
-use scenarios::printing::read;
-use scenarios::printing::saved;
 
 // Both read number 24 before either saves it.
 pub(crate) fn two_writers(image: &mut [u8; 32768]) {

@@ -1,3 +1,2 @@
-// What the programs that run the flash calls share: formatted images, pages, and the lines that tell of them.
+// What the programs that run the flash calls share: formatted images, and pages that are saved and read back.
 pub mod pages;
-pub mod printing;

@@ -3,8 +3,8 @@ use Prim.Native.Nat.{_≤_, _-_}
 use lib.ListN.{length}
 use mathlib.Core.Path.{_≡_}
 use borrow.Author.Needs.{needs}
-use Rattle.scenarios.proofs.printing.adler.Statement.{statement}
-use Rattle.scenarios.proofs.printing.adler.Tie as tie
+use Rattle.printing.proofs.adler.Statement.{statement}
+use Rattle.printing.proofs.adler.Tie as tie
 
 abbrev Inv-loop : tie.InvT-loop
 Inv-loop image sum₀ i₀ i-end sum i = (i ≤ i-end) × (i-end ≡ length image)

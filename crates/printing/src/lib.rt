@@ -1,9 +1,9 @@
-// Lines of the output, and what they tell of an image.
-use crate::pages::first_different;
-use crate::pages::save_round;
+// Lines that the programs on flash partitions print, and what they tell of an image.
 use flash::LiveNumber;
 use flash::Summary;
 use libc::STDOUT_FILENO;
+use scenarios::pages::first_different;
+use scenarios::pages::save_round;
 
 pub fn text(bytes: &[u8]) {
     io::write_all(STDOUT_FILENO, bytes);
