@@ -10,7 +10,7 @@ ghost use lib.ListN.{length, take};
 ghost use Rattle.flash_model.specs.Measures.{capacity};
 ghost use Rattle.flash_model.specs.UserBlock.{number};
 ghost use Rattle.bitmap.specs.Over.{Over};
-ghost use Rattle.distances.specs.Numbers.{Clear, Nearest};
+ghost use Rattle.distances.specs.Numbers.{Clear, LeastKnown};
 
 // The distance of the block that begins this part: its number less the start, in 16 bits. Numbers below the start come last.
 fn distance(part: &[u8], start: u16) -> u16
@@ -30,7 +30,7 @@ pub struct Near {
 fn nearest_in(image: &[u8], m: Measures, from: usize, to: usize, start: u16, before: Near) -> Near
     requires { ⌜ Over (now image) (m .size) ⌝ }
     requires { ⌜ (1 ≤ from) × (to ≤ capacity (m .size) + 1) ⌝ }
-    ensures { λ r. ⌜ ((used span : ℕ) → to ≤ used + 1 → Nearest (now (image .entry)) used start span from (before .least) (before .at) → Nearest (now (image .entry)) used start span to (r .least) (r .at)) ⌝ }
+    ensures { λ r. ⌜ ((used span : ℕ) → to ≤ used + 1 → LeastKnown (now (image .entry)) used start span from (before .least) (before .at) → LeastKnown (now (image .entry)) used start span to (r .least) (r .at)) ⌝ }
 {
     let mut least = before.least;
     let mut at = before.at;
@@ -70,25 +70,25 @@ pub fn nearer_in_eight(image: &[u8], m: Measures, k: usize, start: u16, least: u
 pub fn nearest(image: &[u8], m: Measures, used: usize, start: u16, span: u16) -> Near
     requires { ⌜ Over (now image) (m .size) ⌝ }
     requires { ⌜ used ≤ capacity (m .size) ⌝ }
-    ensures { λ r. ⌜ Nearest (now (image .entry)) used start span (used + 1) (r .least) (r .at) ⌝ }
+    ensures { λ r. ⌜ LeastKnown (now (image .entry)) used start span (used + 1) (r .least) (r .at) ⌝ }
 {
-    let mut near = Near { least: span, at: 0 };
+    let mut found = Near { least: span, at: 0 };
     if used < 8 {
-        return nearest_in(image, m, 1, used + 1, start, near);
+        return nearest_in(image, m, 1, used + 1, start, found);
     }
     let mut k: usize = 1;
     while k + 7 <= used {
-        if nearer_in_eight(image, m, k, start, near.least) {
-            near = nearest_in(image, m, k, k + 8, start, near);
-            if near.least == 0 {
-                return near;
+        if nearer_in_eight(image, m, k, start, found.least) {
+            found = nearest_in(image, m, k, k + 8, start, found);
+            if found.least == 0 {
+                return found;
             }
         }
         k += 8;
     }
     let last = used - 7;
-    if !nearer_in_eight(image, m, last, start, near.least) {
-        return near;
+    if !nearer_in_eight(image, m, last, start, found.least) {
+        return found;
     }
-    nearest_in(image, m, last, last + 8, start, near)
+    nearest_in(image, m, last, last + 8, start, found)
 }

@@ -19,7 +19,7 @@ use Rattle.flash_model.proofs.MeasureLaws.{legal-below}
 use Rattle.flash_model.proofs.HolderLaws.{matches}
 use Rattle.flash_model.proofs.MeaningLaws.{next-live, live-none}
 use Rattle.partition.specs.Usable.{Usable}
-use Rattle.distances.specs.Numbers.{Clear, Numbered, Nearest, Seen}
+use Rattle.distances.specs.Numbers.{Clear, Numbered, LeastKnown, Seen}
 use Rattle.listing.specs.Listing.{lowered, asNext}
 use Rattle.listing.specs.Best.{LeftOut, Best}
 use Rattle.partition.proofs.UsableLaws.{usable-measured, holder-some}
@@ -51,7 +51,7 @@ pub seen-at : (image : List ℕ) (used k n : ℕ) → Numbered image used k n �
 seen-at image used k n h r = record { at = k; low = h .low; below = omega (arith, h .within); here = rw (eq-eqb (number (blockAt image k)) n (h .same), r) }
 
 -- a distance that does not lead past the top is that of a number
-pub numbered-near : (image : List ℕ) (used start end k least at : ℕ) → Nearest image used start (end - start) k least at → start + least < end → end ≤ 2 ^ 16 → Numbered image used at (start + least)
+pub numbered-near : (image : List ℕ) (used start end k least at : ℕ) → LeastKnown image used start (end - start) k least at → start + least < end → end ≤ 2 ^ 16 → Numbered image used at (start + least)
 numbered-near image used start end k least at n h t =
     let number : (least + start) % 2 ^ 16 ≡ start + least = omega arith in
     subst (Numbered image used at) number (n .found (omega arith))

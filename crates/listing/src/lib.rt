@@ -197,13 +197,13 @@ pub fn next_number(image: &[u8], m: Measures, used: usize, start: usize) -> Next
     if end <= start {
         return Next::Nothing;
     }
-    let near = nearest(image, m, used, start as u16, (end - start) as u16);
-    let number = start + near.least as usize;
+    let found = nearest(image, m, used, start as u16, (end - start) as u16);
+    let number = start + found.least as usize;
     if end <= number {
         return Next::Nothing;
     }
-    if right_checksum(part_from(image, m, near.at)) {
+    if right_checksum(part_from(image, m, found.at)) {
         return Next::Number(number);
     }
-    lowest_right(image, m, used, start, near.at)
+    lowest_right(image, m, used, start, found.at)
 }

@@ -4,7 +4,7 @@ use Prim.Native.Nat.{_+_, _-_, _≤_}
 use mathlib.Core.Logic.{⊎-elim}
 use native.Mathlib.Omega.{arith}
 use Rattle.bitmap.proofs.BitReads.{over-measured}
-use Rattle.distances.specs.Numbers.{Nearest}
+use Rattle.distances.specs.Numbers.{LeastKnown}
 use Rattle.distances.proofs.ClearLaws.{nearest-first, nearest-at-start, nearest-fewer, nearest-passed}
 use borrow.Author.Tests.{not-true}
 use borrow.Author.Needs.{needs}
@@ -12,10 +12,10 @@ use Rattle.distances.proofs.nearest.Statement.{statement}
 use Rattle.distances.proofs.nearest.Tie as tie
 
 abbrev Inv-loop : tie.InvT-loop
-Inv-loop image m used start span near₀ k₀ near k = Nearest image used start span k (near .least) (near .at) × ((1 ≤ k) × (k ≤ used + 1))
+Inv-loop image m used start span found₀ k₀ found k = LeastKnown image used start span k (found .least) (found .at) × ((1 ≤ k) × (k ≤ used + 1))
 
 abbrev μ-loop : tie.MeasureT-loop
-μ-loop image m used start span near₀ k₀ near k = used + 1 - k
+μ-loop image m used start span found₀ k₀ found k = used + 1 - k
 
 add-nearest-in : tie.Need-add-nearest-in Inv-loop μ-loop
 add-nearest-in c = search needs
@@ -64,7 +64,7 @@ loop-again c =
     let g = c .before in
     let l = g .before .before in
     let a = l .before .before .before in (
-      ⊎-elim {C = Nearest (a .args .image .now) (a .args .used) (a .args .start) (a .args .span) (l .loop .k + 8) (c .if2 .near .least) (c .if2 .near .at)}
+      ⊎-elim {C = LeastKnown (a .args .image .now) (a .args .used) (a .args .start) (a .args .span) (l .loop .k + 8) (c .if2 .found .least) (c .if2 .found .at)}
           (λ w. rw (w .4) (w .1 .ensures _ _ (omega arith) (l .loop .inv .0)))
           (λ w. rw (w .1) (nearest-passed _ _ _ _ (l .loop .k) _ _ (l .loop .inv .0) _ (g .nearer-in-eight .ensures (w .0 .left)))) (c .if2 .came),
       (omega arith, omega arith),

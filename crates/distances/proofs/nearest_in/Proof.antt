@@ -2,7 +2,7 @@
 use Prim.Native.Nat.{ℕ, _+_, _-_, _≤_}
 use mathlib.Core.Logic.{⊎-elim}
 use native.Mathlib.Omega.{arith}
-use Rattle.distances.specs.Numbers.{Nearest}
+use Rattle.distances.specs.Numbers.{LeastKnown}
 use Rattle.distances.proofs.ClearLaws.{nearest-fewer, nearest-kept, nearest-lower}
 use borrow.Author.Needs.{needs}
 use Rattle.distances.proofs.nearest_in.Statement.{statement}
@@ -10,7 +10,7 @@ use Rattle.distances.proofs.nearest_in.Tie as tie
 
 abbrev Inv-loop : tie.InvT-loop
 Inv-loop image m from to start least₀ at₀ k₀ least at k =
-    (1 ≤ k) × ((used span : ℕ) → to ≤ used + 1 → Nearest image used start span from least₀ at₀ → Nearest image used start span k least at)
+    (1 ≤ k) × ((used span : ℕ) → to ≤ used + 1 → LeastKnown image used start span from least₀ at₀ → LeastKnown image used start span k least at)
 
 abbrev μ-loop : tie.MeasureT-loop
 μ-loop image m from to start least₀ at₀ k₀ least at k = to - k
@@ -40,7 +40,7 @@ loop-again c =
           let found = l .loop .inv .1 used span h n in
           let step = nearest-lower _ used _ span (l .loop .k) (l .loop .least) (l .loop .at) found (d .distance .result) (omega arith) _ (p .part-from .ensures .0) (d .distance .ensures) in
           let same = nearest-kept _ used _ span (l .loop .k) (l .loop .least) (l .loop .at) found (d .distance .result) (omega arith) _ (p .part-from .ensures .0) (d .distance .ensures) in
-          ⊎-elim {C = Nearest (l .before .before .args .image .now) used (l .before .before .args .start) span (l .loop .k + 1) (c .if1 .least) (c .if1 .at)}
+          ⊎-elim {C = LeastKnown (l .before .before .args .image .now) used (l .before .before .args .start) span (l .loop .k + 1) (c .if1 .least) (c .if1 .at)}
           (λ w. rw (w .1, w .2) (step (l .loop .inv .0) (omega arith) (omega arith))) (λ w. rw (w .1, w .2) (same (omega arith))) (c .if1 .came),
     )
 

@@ -12,9 +12,9 @@ use Rattle.listing.proofs.next_number.Statement.{statement}
 use Rattle.listing.proofs.next_number.Tie as tie
 
 -- the block found has the number
-near : (e : tie.Else2) → Numbered (e .before .before .before .before .before .before .args .image .now) (e .before .before .before .before .before .before .args .used)
+has-number : (e : tie.Else2) → Numbered (e .before .before .before .before .before .before .args .image .now) (e .before .before .before .before .before .before .args .used)
     (e .before .before .nearest .result .at) (e .before .before .before .before .before .before .args .start + e .before .before .nearest .result .least)
-near e =
+has-number e =
     let f = e .before .before in
     let n = f .before .before in
     let a = n .before .before in
@@ -73,7 +73,7 @@ part-from-requires : tie.Need-part-from-requires
 part-from-requires c κs =
     let a = c .before .before .before .before .before .before in (
       usable-over (a .args .image .now) (a .args .m .size) (a .args .used) (a .pre),
-      omega (arith, near c .within, count-most (a .args .image .now) (a .args .m .size) (a .args .used) (a .pre)),
+      omega (arith, has-number c .within, count-most (a .args .image .now) (a .args .m .size) (a .args .used) (a .pre)),
     )
 
 right-checksum-requires : tie.Need-right-checksum-requires
@@ -87,7 +87,7 @@ returns-3 c =
     let n = f .before .before in
     let a = n .before .before in
     let right = ap rightChecksum (sym (p .part-from .ensures .0)) ∙ sym (c .before .right-checksum .ensures) ∙ c .if3 .taken in
-    let seen = seen-at (a .args .image .now) (a .args .used) (f .nearest .result .at) _ (near e) right in
+    let seen = seen-at (a .args .image .now) (a .args .used) (f .nearest .result .at) _ (has-number e) right in
     let b = best-near (a .args .image .now) (a .args .start) (n .capacity .result) (a .args .used + 1) (f .nearest .result .least) (f .nearest .ensures .clear) (e .if2 .left) seen in
     next-is (a .args .image .now) (a .args .m .size) (a .args .used) (a .pre) (n .capacity .result) (n .capacity .ensures) (a .args .start) (a .args .used + 1)
     (a .args .start + f .nearest .result .least) (omega arith) b (e .if2 .left)
