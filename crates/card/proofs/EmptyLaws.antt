@@ -54,4 +54,4 @@ module _ (table : List ℕ) (directory : List (List ℕ)) (none : (i : ℕ) → 
   pub empty-marked : (used : List ℕ) → length used ≡ 208 → MarkedFiles table (filesBefore table directory 208) noMarks
   empty-marked used e =
       let none-before = stays-to-end directory (filesBefore table directory) (files-stay table directory) (empty-listed used e) 0 refl in
-      record { lengths = lengths-start table; marking = rw none-before at (marking-start table directory) }
+      record { are-lengths = lengths-start table; are-of-blocks = rw none-before at (marking-start table directory) }

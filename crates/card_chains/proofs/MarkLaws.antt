@@ -91,7 +91,7 @@ module _ (table : List ℕ) (directory : List (List ℕ)) where
       there = chain-file table (entryAt directory i) u (sym walk-broken ∙ sound)
 
       pub walk-lengths : Lengths table marks′
-      walk-lengths = w .lengths (ap isSome there)
+      walk-lengths = w .are-lengths (ap isSome there)
 
       shared : isShared found ≡ anyOf (isMarked marks) (fileOf table (entryAt directory i))
       shared =
@@ -156,10 +156,10 @@ unfolding orphans countTo isOrphan isInUse
 orphans-left table directory {marks} f = counts-add (isOrphan table directory) (isMarked marks) (isInUse table) each 0 200
   where
     each : (b : ℕ) → one (isOrphan table directory b) + one (isMarked marks b) ≡ one (isInUse table b)
-    each b = rw (← f .marking .exactly b) (go (isMarked marks b) refl)
+    each b = rw (← f .are-of-blocks .exactly b) (go (isMarked marks b) refl)
       where
         go : (t : Bool) → isMarked marks b ≡ t → one (not (freeOrDamaged (linkAt table b)) && not t) + one t ≡ one (not (freeOrDamaged (linkAt table b)))
-        go true m = rw (in-use (f .lengths) b m)
+        go true m = rw (in-use (f .are-lengths) b m)
         go false m = rw (and-true (not (freeOrDamaged (linkAt table b)))) (omega arith)
 
 -- the two counts, and what is left

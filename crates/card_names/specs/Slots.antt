@@ -13,13 +13,13 @@ use Rattle.card_directory.specs.Listed.{Listed}
 unfoldable pub quad : List ℕ → ℕ → ℕ
 quad name i = word name i + 65536 * word name (i + 2)
 
--- The 32 binary digits of x turned left by k.
-abbrev pub turned : ℕ → ℕ → ℕ
-turned k x = bitXor (x * 2 ^ k % 2 ^ 32) (x / 2 ^ (32 - k))
+-- The 32 binary digits of x rotated left by k.
+abbrev pub rotated : ℕ → ℕ → ℕ
+rotated k x = bitXor (x * 2 ^ k % 2 ^ 32) (x / 2 ^ (32 - k))
 
 -- Three parts in one.
 unfoldable pub mixed : ℕ → ℕ → ℕ → ℕ
-mixed a b c = bitXor (bitXor a (turned 9 b)) (turned 19 c)
+mixed a b c = bitXor (bitXor a (rotated 9 b)) (rotated 19 c)
 
 -- Any function of the name would do, since names of the same slot are compared.
 unfoldable pub slotOf : List ℕ → ℕ

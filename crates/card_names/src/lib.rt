@@ -31,7 +31,7 @@ fn quad(name: &[u8], i: usize) -> usize
     word(name, i) + 65536 * word(name, i + 2)
 }
 
-// The parts of a name in one. Each is turned by another amount, so that digits that differ at the same place of two parts do not
+// The parts of a name in one. Each is rotated by another amount, so that digits that differ at the same place of two parts do not
 // cancel.
 fn mixed(a: u32, b: u32, c: u32) -> u32
     ensures { λ r. ⌜ r ≡ table.mixed a b c ⌝ }

@@ -15,7 +15,7 @@ use Rattle.card_model.specs.Table.{fatEntry, linkOf, linkAt}
 use Rattle.card_model.specs.Files.{chainStep, chain}
 use Rattle.card_table.proofs.TableLaws.{names-next}
 use Rattle.card_pieces.specs.Marks.{Lengths, Walkable, Walked, outcome, IsAfter}
-use Rattle.card_pieces.specs.Pieces.{blockOn, Within, LeadsBy, Leads, markedOn, Onward, Taken}
+use Rattle.card_pieces.specs.Pieces.{blockOn, Within, LeadsBy, NeighbourSteps, markedOn, Onward, Taken}
 use Rattle.card_pieces.proofs.WalkLaws.{chain-step, walkable, walked-last, next-asked, walked-next, after-none, after-next}
 
 -- ---- blocks of a piece
@@ -66,10 +66,10 @@ module _ (table : List ℕ) where
   ends-there b q = rw q
 
   module _ (first steps : ℕ) where
-    pub leads-down : Within true first (steps + 1) → ((b : ℕ) → first - steps + 1 ≤ b → b < first + 1 → LeadsBy table 65535 b) → Leads table true first steps
+    pub leads-down : Within true first (steps + 1) → ((b : ℕ) → first - steps + 1 ≤ b → b < first + 1 → LeadsBy table 65535 b) → NeighbourSteps table true first steps
     unfolding blockOn
     leads-down w all = record {
-      within = w;
+      room = w;
       each = λ i h.
           let r = w .downward refl in
           let q = all (first - i) (omega (arith, r, h)) (omega arith) in
@@ -77,10 +77,10 @@ module _ (table : List ℕ) where
           names (first - i) _ e (omega (arith, w .starts));
     }
 
-    pub leads-up : Within false first (steps + 1) → ((b : ℕ) → first ≤ b → b < first + steps → LeadsBy table 1 b) → Leads table false first steps
+    pub leads-up : Within false first (steps + 1) → ((b : ℕ) → first ≤ b → b < first + steps → LeadsBy table 1 b) → NeighbourSteps table false first steps
     unfolding blockOn
     leads-up w all = record {
-      within = w;
+      room = w;
       each = λ i h.
           let r = w .upward refl in
           let q = all (first + i) (omega arith) (omega (arith, h)) in
@@ -113,7 +113,7 @@ module _ (table : List ℕ) where
   onward-retry {marks} {b} {left} h f k s l e =
       (rw (e .0, e .1) (onward-here marks b left h f k), (omega (arith, e .1, e .2, s, l), omega (arith, e .1, e .2, l)))
 
-  module _ (down : Bool) (first all : ℕ) (r : Leads table down first all) where
+  module _ (down : Bool) (first all : ℕ) (r : NeighbourSteps table down first all) where
     abbrev on : ℕ → ℕ
     on = blockOn down first
 
@@ -124,17 +124,17 @@ module _ (table : List ℕ) where
     run-onward zero i left marks e s f k new =
         let q : i ≡ all = omega (arith, e) in
         let l : left - 0 ≡ left = omega arith in
-        rw (← q, l) (onward-here marks (on i) left (on-below (r .within) i (omega (arith, e))) f k)
+        rw (← q, l) (onward-here marks (on i) left (on-below (r .room) i (omega (arith, e))) f k)
     run-onward (suc steps) i left marks e s f k new =
         let h : i < all = omega (arith, e) in
-        let within = r .within in
+        let room = r .room in
         let n : left ≡ 0 → ⊥ = λ z. omega (arith, z, s) in
         let q : suc i ≡ i + 1 = omega arith in
         let told : linkAt table (on i) ≡ Next (on (suc i)) = rw q (r .each i h) in
-        let b = on-below within i (omega (arith, h)) in
+        let b = on-below room i (omega (arith, h)) in
         let asked = next-asked table marks (on i) left k n b (new i (omega arith) h) (on (suc i)) told f in
         let rest = run-onward steps (suc i) (left - 1) (set marks (on i) left) (omega (arith, e)) (omega (arith, s)) (omega (arith, f)) (asked .1)
-        (λ j a g. getD-set-other marks (on i) (on j) left 0 (λ d. on-apart within j (omega (arith, g)) i (omega (arith, a)) (sym d)) ∙ new j (omega (arith, a)) g) in
+        (λ j a g. getD-set-other marks (on i) (on j) left 0 (λ d. on-apart room j (omega (arith, g)) i (omega (arith, a)) (sym d)) ∙ new j (omega (arith, a)) g) in
         let l : left - 1 - steps ≡ left - suc steps = omega arith in
         let o : Onward table marks (on i) left (set marks (on i) left) (on (suc i)) (left - 1) = record {
           below = asked .0 .0;
@@ -144,7 +144,7 @@ module _ (table : List ℕ) where
         } in
         rw l at (onward-further o rest)
 
-  pub piece-onward : {marks : List ℕ} {down : Bool} {first left steps : ℕ} → Leads table down first steps
+  pub piece-onward : {marks : List ℕ} {down : Bool} {first left steps : ℕ} → NeighbourSteps table down first steps
       → ((i : ℕ) → i < steps → getD marks (blockOn down first i) 0 ≡ 0) → steps < left → left ≤ 200 → Walkable table marks left first
       → Onward table marks first left (markedOn (blockOn down first) marks 0 left steps) (blockOn down first steps) (left - steps)
   piece-onward {marks} {down} {first} {left} {steps} r new s f k =
@@ -160,12 +160,12 @@ module _ (table : List ℕ) where
       walked-last table marks b 1 (walkable table marks 1 b l) n h new (chain-step table 1 b n refl (ends-there table b e)) refl
 
 pub not-taken : (table : List ℕ) (first size : ℕ) (marks : List ℕ) → Taken table first size marks false marks
-not-taken table first size marks = record { walked = λ e. absurd (false≢true e); stays = λ e. refl }
+not-taken table first size marks = record { as-walked = λ e. absurd (false≢true e); stays = λ e. refl }
 
 -- ---- the block some steps on
 
 module _ (table : List ℕ) (down : Bool) (first : ℕ) where
-  module _ (steps : ℕ) (r : Leads table down first steps) where
+  module _ (steps : ℕ) (r : NeighbourSteps table down first steps) where
     run-after : (left i : ℕ) → i + left ≡ steps → IsAfter table (blockOn down first i) left (blockOn down first steps)
     run-after zero i e =
         let q : i ≡ steps = omega (arith, e) in

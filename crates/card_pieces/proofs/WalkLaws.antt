@@ -49,7 +49,7 @@ module _ (table : List ℕ) where
   pub walked-broken : {o : Option (List ℕ)} (marks marks′ : List ℕ) → o ≡ none → Walked table o marks broken marks′
   walked-broken marks marks′ e = record {
     answers = rw e;
-    lengths = λ s. absurd (false≢true (sym (ap isSome e) ∙ s));
+    are-lengths = λ s. absurd (false≢true (sym (ap isSome e) ∙ s));
     marked = λ bs f. absurd (false≢true (sym (ap isSome e) ∙ ap isSome f));
   }
 
@@ -79,7 +79,7 @@ module _ (table : List ℕ) where
         go (some bs) e true d =
             let meets : anyOf (isMarked marks) bs ≡ true = rw (chain-head table left b bs e, is-marked) in record {
               answers = q ∙ rw (d, meets);
-              lengths = λ s. k .all-if-good (ap isSome e);
+              are-lengths = λ s. k .all-if-good (ap isSome e);
               marked = λ cs f a. let z : cs ≡ bs = cc in absurd (false≢true (sym a ∙ ap (anyOf (isMarked marks)) z ∙ meets));
             }
 
@@ -106,7 +106,7 @@ module _ (table : List ℕ) where
           go true d =
               let f : chain table left b ≡ some (b ∷ []) = e ∙ rw (eq-eqb (left - 1) 0 (omega (arith, eqb-true left 1 d))) in record {
                 answers = q ∙ rw (d, f, unmarked);
-                lengths = set-lengths;
+                are-lengths = set-lengths;
                 marked = λ bs g a x. let z : bs ≡ b ∷ [] = cc in marked-set marks b left long some-left x ∙ rw (z, or-false);
               }
           go false d =
@@ -148,7 +148,7 @@ module _ (table : List ℕ) where
                 let whole : chain table left b ≡ some (b ∷ rest) = e ∙ rw f in
                 let same = any-same (isMarked (set marks b left)) (isMarked marks) rest (others (chain-distinct table left b (b ∷ rest) whole .0)) in record {
                   answers = w .answers ∙ rw (f, whole, same, unmarked);
-                  lengths = λ s. w .lengths (ap isSome f);
+                  are-lengths = λ s. w .are-lengths (ap isSome f);
                   marked = λ bs g a x.
                       let z : bs ≡ b ∷ rest = cc in
                       let a′ : anyOf (isMarked (set marks b left)) rest ≡ false = same ∙ or-false-right (isMarked marks b) _ (rw z at a) in

@@ -28,8 +28,8 @@ pub record Marking (blocks marks : List ℕ) : Type 0 where
 
 -- The marks after walks along good chains that share no block.
 pub record MarkedFiles (table blocks marks : List ℕ) : Type 0 where
-  pub lengths : Lengths table marks
-  pub marking : Marking blocks marks
+  pub are-lengths : Lengths table marks
+  pub are-of-blocks : Marking blocks marks
 
 -- ---- walks
 
@@ -62,7 +62,7 @@ answer (some blocks) marks = outcome (anyOf (isMarked marks) blocks)
 -- blocks too.
 pub record Walked (table : List ℕ) (blocks : Option (List ℕ)) (marks : List ℕ) (found : ℕ) (marks′ : List ℕ) : Type 0 where
   pub answers : found ≡ answer blocks marks
-  pub lengths : isSome blocks ≡ true → Lengths table marks′
+  pub are-lengths : isSome blocks ≡ true → Lengths table marks′
   pub marked : (bs : List ℕ) → blocks ≡ some bs → anyOf (isMarked marks) bs ≡ false → (b : ℕ) → isMarked marks′ b ≡ (has b bs || isMarked marks b)
 
 -- r is the block that so many steps from b lead to: on a chain that is longer than that, the chain's block at this index.

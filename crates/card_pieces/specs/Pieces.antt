@@ -26,8 +26,8 @@ abbrev pub LeadsBy : List ℕ → ℕ → ℕ → Type 0
 LeadsBy table step b = (step + b) % 65536 ≡ fatEntry table b
 
 -- So many steps from the first block each go to the neighbour.
-pub record Leads (table : List ℕ) (down : Bool) (first steps : ℕ) : Type 0 where
-  pub within : Within down first (steps + 1)
+pub record NeighbourSteps (table : List ℕ) (down : Bool) (first steps : ℕ) : Type 0 where
+  pub room : Within down first (steps + 1)
   pub each : (i : ℕ) → i < steps → linkAt table (blockOn down first i) ≡ Next (blockOn down first (i + 1))
 
 -- The marks that so many steps of a walk leave, from number i of the blocks on with so many left.
@@ -44,5 +44,5 @@ pub record Onward (table marks : List ℕ) (b left : ℕ) (marks′ : List ℕ) 
 
 -- A file that was taken has the marks that a walk leaves where no block was marked before; else no mark has changed.
 pub record Taken (table : List ℕ) (first size : ℕ) (marks : List ℕ) (taken : Bool) (marks′ : List ℕ) : Type 0 where
-  pub walked : taken ≡ true → Walked table (chain table size first) marks (outcome false) marks′
+  pub as-walked : taken ≡ true → Walked table (chain table size first) marks (outcome false) marks′
   pub stays : taken ≡ false → marks′ ≡ marks

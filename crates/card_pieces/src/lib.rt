@@ -7,7 +7,7 @@ ghost use Prim.Native.Nat.{ℕ, _+_, _≤_, _<_};
 ghost use lib.ListN.{length, getD};
 ghost use Rattle.card_model.specs.Layout.{tableOf};
 ghost use Rattle.card_pieces.specs.Marks.{Lengths, Walkable};
-ghost use Rattle.card_pieces.specs.Pieces.{blockOn, Within, LeadsBy, Leads, markedOn, Onward, Taken};
+ghost use Rattle.card_pieces.specs.Pieces.{blockOn, Within, LeadsBy, NeighbourSteps, markedOn, Onward, Taken};
 
 // The block so many steps on from the first, each to the neighbour below or above.
 pub fn block_on(down: bool, first: usize, i: usize) -> usize
@@ -58,7 +58,7 @@ fn has_room(down: bool, first: usize, steps: usize) -> bool
 // Whether so many steps from the first block each go to the neighbour.
 pub fn leads(card: &[u8], down: bool, first: usize, steps: usize) -> bool
     requires { ⌜ (length (now card) ≡ 131072) × (first < 200) ⌝ }
-    ensures { λ r. ⌜ (r ≡ true → Leads (tableOf (now (card .entry))) down first steps) ⌝ }
+    ensures { λ r. ⌜ (r ≡ true → NeighbourSteps (tableOf (now (card .entry))) down first steps) ⌝ }
 {
     if !has_room(down, first, steps) {
         return false;

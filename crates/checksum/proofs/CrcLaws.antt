@@ -15,7 +15,7 @@ use Rattle.loads.specs.BigEndian.{Word}
 use Rattle.loads.specs.LittleEndian.{Little}
 use Rattle.loads.proofs.LittleLaws.{little-lt as word-below}
 use Rattle.checksum.specs.Crc.{shift, shifts, takes, crcFrom, checksumOf}
-use Rattle.checksum.specs.Polynomial.{rem, remLittle, behind}
+use Rattle.checksum.specs.Polynomial.{rem, remLittle}
 use Rattle.checksum.proofs.XorLaws.{xor-assoc, xor-ones}
 use Rattle.checksum.proofs.XorSolver.{var, both, solve}
 use Rattle.checksum.proofs.ShiftLaws.{shifts-lt, shifts-xor, shifts-add, shifts-swap}
@@ -115,6 +115,10 @@ unfolding rem shift
 start-word = start
 
 -- ---- words loaded little endian, with a start in front of them all
+
+-- the remainder x of k digits behind the start f
+unfoldable pub behind : ℕ → ℕ → ℕ → ℕ
+behind f k x = bitXor x (shifts k f)
 
 pub start-little : (s : List ℕ) → crcFrom 65535 s ≡ crcFrom (shifts 16 (behind 33999 0 0)) (drop 0 s)
 unfolding behind shifts

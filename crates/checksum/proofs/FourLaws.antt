@@ -11,14 +11,14 @@ use lib.Bits.{bitXor, xor-lt, xor-mod, xor-zero-r}
 use lib.ListN.{length, drop}
 use Rattle.loads.specs.LittleEndian.{Little}
 use Rattle.checksum.specs.Crc.{shift, shifts, crcFrom}
-use Rattle.checksum.specs.Polynomial.{rem, remLittle, remTwo, remThree, remFour, behind}
+use Rattle.checksum.specs.Polynomial.{rem, remLittle, remTwo, remThree, remFour}
 use Rattle.checksum.proofs.XorLaws.{xor-shl}
 use Rattle.checksum.proofs.XorSolver.{var, both, solve}
 use Rattle.checksum.proofs.ShiftLaws.{shifts-lt, shifts-xor, shifts-add, shifts-zero}
 use Rattle.checksum.proofs.RemainderLaws.{rem-xor}
 use Rattle.checksum.proofs.LittleLaws.{little-lt, little-xor, little-shift}
 use Rattle.checksum.proofs.RuleLaws.{rule-128, rule-256, sum-shifts}
-use Rattle.checksum.proofs.CrcLaws.{crc-behind, start-little}
+use Rattle.checksum.proofs.CrcLaws.{behind, crc-behind, start-little}
 
 -- a word behind x
 behind-lt : (x w : ℕ) → x < 65536 → bitXor (shifts 64 x) (remLittle 8 w) < 65536

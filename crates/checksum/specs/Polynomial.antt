@@ -25,7 +25,3 @@ remThree a b c = bitXor (shifts 64 (remTwo a b)) (remLittle 8 c)
 
 unfoldable pub remFour : ℕ → ℕ → ℕ → ℕ → ℕ
 remFour a b c d = bitXor (shifts 64 (remThree a b c)) (remLittle 8 d)
-
--- the remainder x of k digits behind the start f
-unfoldable pub behind : ℕ → ℕ → ℕ → ℕ
-behind f k x = bitXor x (shifts k f)

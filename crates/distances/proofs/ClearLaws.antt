@@ -43,30 +43,30 @@ module _ (image : List ℕ) (start : ℕ) where
 
 module _ (image : List ℕ) (used start span : ℕ) where
   pub nearest-first : LeastKnown image used start span 1 span 0
-  nearest-first = record { clear = clear-first image start span 1; found = λ h. absurd (omega arith) }
+  nearest-first = record { none-nearer = clear-first image start span 1; found = λ h. absurd (omega arith) }
 
   -- nothing is nearer than the start itself
   pub nearest-at-start : (k least at to : ℕ) → least ≡ 0 → LeastKnown image used start span k least at → LeastKnown image used start span to least at
-  nearest-at-start k least at to e n = record { clear = rw e (clear-at-start image start 1 to); found = n .found }
+  nearest-at-start k least at to e n = record { none-nearer = rw e (clear-at-start image start 1 to); found = n .found }
 
   module _ (k least at : ℕ) (n : LeastKnown image used start span k least at) where
     pub nearest-fewer : (to : ℕ) → to ≤ k → LeastKnown image used start span to least at
-    nearest-fewer to t = record { clear = clear-fewer image start least 1 k (n .clear) to t; found = n .found }
+    nearest-fewer to t = record { none-nearer = clear-fewer image start least 1 k (n .none-nearer) to t; found = n .found }
 
     -- the blocks from k on too, which are no nearer
     pub nearest-passed : (to : ℕ) → Clear image start least k to → LeastKnown image used start span to least at
-    nearest-passed to d = record { clear = clear-joined image start least 1 k (n .clear) least to least d (omega arith) (omega arith); found = n .found }
+    nearest-passed to d = record { none-nearer = clear-joined image start least 1 k (n .none-nearer) least to least d (omega arith) (omega arith); found = n .found }
 
     -- one more, at its distance
     module _ (d : ℕ) (h : d < 2 ^ 16) (part : List ℕ) (p : part ≡ blockAt image k) (e : (d + start) % 2 ^ 16 ≡ number part) where
       pub nearest-kept : least ≤ d → LeastKnown image used start span (k + 1) least at
       nearest-kept l = record {
-        clear = clear-joined image start least 1 k (n .clear) d (k + 1) least (clear-one image start d k h part p e) (omega arith) l;
+        none-nearer = clear-joined image start least 1 k (n .none-nearer) d (k + 1) least (clear-one image start d k h part p e) (omega arith) l;
         found = n .found;
       }
 
       pub nearest-lower : 1 ≤ k → k ≤ used → d ≤ least → LeastKnown image used start span (k + 1) d k
       nearest-lower low within l = record {
-        clear = clear-joined image start least 1 k (n .clear) d (k + 1) d (clear-one image start d k h part p e) l (omega arith);
+        none-nearer = clear-joined image start least 1 k (n .none-nearer) d (k + 1) d (clear-one image start d k h part p e) l (omega arith);
         found = λ _. record { low = low; within = within; same = sym (e ∙ ap number p) };
       }

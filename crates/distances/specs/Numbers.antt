@@ -20,7 +20,7 @@ pub record Numbered (image : List ℕ) (used k n : ℕ) : Type 0 where
 
 -- Where the blocks below k are passed: none is nearer to the start than `least`, and where that is below `span`, block `at` has it.
 pub record LeastKnown (image : List ℕ) (used start span k least at : ℕ) : Type 0 where
-  pub clear : Clear image start least 1 k
+  pub none-nearer : Clear image start least 1 k
   pub found : least < span → Numbered image used at ((least + start) % 2 ^ 16)
 
 -- Some user block below k has the number and a right checksum.

@@ -39,7 +39,7 @@ returns c =
     let f = z .before .before in
     let b = f .first-in .ensures ∙ ap firstIn (f .before .fields-at .ensures) in
     let n = z .size-in .ensures ∙ ap sizeIn (z .before .fields-at2 .ensures) in
-    rw (b, n) at (t .take-one .ensures .walked (c .if1 .taken))
+    rw (b, n) at (t .take-one .ensures .as-walked (c .if1 .taken))
 
 pass-pieces-requires : tie.Need-pass-pieces-requires
 pass-pieces-requires c κs =

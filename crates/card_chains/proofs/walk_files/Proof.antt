@@ -99,7 +99,7 @@ returns c =
     let list = a .pre .1 .0 in
     let z : 0 ≡ a .args .count = sym (d .if1 .taken) in
     let free = first-none (shares card) _ _ (first-of-all card list 0 z (start card)) (omega arith) in
-    (c .done .ensures ∙ neither-refused card (none-bad card list 0 z refl) free, λ e. rw (a .pre .0 .1) (record { lengths = lengths-start _; marking = all-marked card list 0 z (marking-start _ _) }))
+    (c .done .ensures ∙ neither-refused card (none-bad card list 0 z refl) free, λ e. rw (a .pre .0 .1) (record { are-lengths = lengths-start _; are-of-blocks = all-marked card list 0 z (marking-start _ _) }))
 
 read-table-requires : tie.Need-read-table-requires Inv-loop μ-loop
 read-table-requires c κs = search needs
@@ -225,7 +225,7 @@ returns-4 c =
     let z : j ≡ a .args .count = omega arith in
     let first = first-of-all card list j z (l .loop .inv .3) in
     let sound = none-bad card list j z (l .loop .inv .2) in
-    (c .done2 .ensures ∙ neither-refused card sound (first-none (shares card) _ _ first (omega arith)), λ e. record { lengths = l .loop .inv .1; marking = all-marked card list j z (l .loop .inv .4 (omega arith)) })
+    (c .done2 .ensures ∙ neither-refused card sound (first-none (shares card) _ _ first (omega arith)), λ e. record { are-lengths = l .loop .inv .1; are-of-blocks = all-marked card list j z (l .loop .inv .4 (omega arith)) })
 
 pub walk-files-spec : {M : Type 1} → statement M
 walk-files-spec =

@@ -58,7 +58,7 @@ returns-3 c =
 any-marked-requires : tie.Need-any-marked-requires
 any-marked-requires c κs =
     let i = c .before in
-    within-less (i .before .leads .ensures (not-false _ (i .if3 .left)) .within)
+    within-less (i .before .leads .ensures (not-false _ (i .if3 .left)) .room)
 
 retry-requires-4 : tie.Need-retry-requires-4
 retry-requires-4 c κs = search needs
@@ -71,7 +71,7 @@ returns-4 c =
 mark-run-requires : tie.Need-mark-run-requires
 mark-run-requires c κs =
     let i = c .before .before .before .before in
-    (within-less (i .before .leads .ensures (not-false _ (i .if3 .left)) .within), omega arith, omega arith)
+    (within-less (i .before .leads .ensures (not-false _ (i .if3 .left)) .room), omega arith, omega arith)
 
 sub-rest : tie.Need-sub-rest
 sub-rest c = search needs
@@ -79,7 +79,7 @@ sub-rest c = search needs
 block-on-requires-2 : tie.Need-block-on-requires-2
 block-on-requires-2 c κs =
     let i = c .before .before .before .before .before in
-    let w = i .before .leads .ensures (not-false _ (i .if3 .left)) .within in
+    let w = i .before .leads .ensures (not-false _ (i .if3 .left)) .room in
     ((w .starts, omega (arith, w .small)), on-room w _ (omega arith))
 
 sub-lesser : tie.Need-sub-lesser

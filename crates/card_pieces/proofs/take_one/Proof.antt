@@ -35,7 +35,7 @@ returns-3 c =
     let last = eqb-true _ _ (not-false _ (or-false-left _ _ (c .if2 .left))) in
     let new = eqb-true _ _ (not-false _ (or-false-right (not (eqb (f .fat-entry .result) 0xFFFA)) _ (c .if2 .left))) in
     let w = one-taken _ _ _ (a .pre .0 .1) (a .pre .1) (sym (f .fat-entry .ensures .0) ∙ last) new in
-    record { walked = λ e. rw (i .if1 .left) w; stays = λ e. absurd (false≢true (sym e)) }
+    record { as-walked = λ e. rw (i .if1 .left) w; stays = λ e. absurd (false≢true (sym e)) }
 
 pub take-one-spec : {M : Type 1} → statement M
 take-one-spec =

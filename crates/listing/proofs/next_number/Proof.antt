@@ -65,7 +65,7 @@ returns-2 c =
     let f = c .before .before in
     let n = f .before .before in
     let a = n .before .before in
-    let b = best-far (a .args .image .now) (a .args .start) (n .capacity .result) (a .args .used + 1) (f .nearest .result .least) (f .nearest .ensures .clear) (c .if2 .taken) in
+    let b = best-far (a .args .image .now) (a .args .start) (n .capacity .result) (a .args .used + 1) (f .nearest .result .least) (f .nearest .ensures .none-nearer) (c .if2 .taken) in
     next-none (a .args .image .now) (a .args .m .size) (a .args .used) (a .pre) (n .capacity .result) (n .capacity .ensures) (a .args .start) (a .args .used + 1) (n .capacity .result)
     (omega arith) b (omega arith)
 
@@ -88,7 +88,7 @@ returns-3 c =
     let a = n .before .before in
     let right = ap rightChecksum (sym (p .part-from .ensures .0)) ∙ sym (c .before .right-checksum .ensures) ∙ c .if3 .taken in
     let seen = seen-at (a .args .image .now) (a .args .used) (f .nearest .result .at) _ (has-number e) right in
-    let b = best-near (a .args .image .now) (a .args .start) (n .capacity .result) (a .args .used + 1) (f .nearest .result .least) (f .nearest .ensures .clear) (e .if2 .left) seen in
+    let b = best-near (a .args .image .now) (a .args .start) (n .capacity .result) (a .args .used + 1) (f .nearest .result .least) (f .nearest .ensures .none-nearer) (e .if2 .left) seen in
     next-is (a .args .image .now) (a .args .m .size) (a .args .used) (a .pre) (n .capacity .result) (n .capacity .ensures) (a .args .start) (a .args .used + 1)
     (a .args .start + f .nearest .result .least) (omega arith) b (e .if2 .left)
 

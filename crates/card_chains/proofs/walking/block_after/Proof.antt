@@ -20,14 +20,14 @@ leads-requires c κs = search needs
 
 block-on-requires : tie.Need-block-on-requires
 block-on-requires c κs =
-    let w = c .before .leads .ensures (c .if1 .taken) .within in
+    let w = c .before .leads .ensures (c .if1 .taken) .room in
     ((w .starts, omega (arith, w .small)), on-room w _ (omega arith))
 
 returns : tie.Need-returns
 returns c =
     let i = c .before in
     let lead = i .before .leads .ensures (i .if1 .taken) in
-    (rw (c .block-on .ensures) (after-piece _ _ _ _ lead), rw (c .block-on .ensures) (on-below (lead .within) _ (omega arith)))
+    (rw (c .block-on .ensures) (after-piece _ _ _ _ lead), rw (c .block-on .ensures) (on-below (lead .room) _ (omega arith)))
 
 read-table-requires : tie.Need-read-table-requires
 read-table-requires c κs = search needs

@@ -7,8 +7,7 @@ use native.Mathlib.Omega.{arith}
 use lib.Dec.{lit<}
 use lib.ListN.{length, drop}
 use Rattle.checksum.specs.Crc.{shifts, crcFrom}
-use Rattle.checksum.specs.Polynomial.{behind}
-use Rattle.checksum.proofs.CrcLaws.{crc-behind, crc-last, end-block}
+use Rattle.checksum.proofs.CrcLaws.{behind, crc-behind, crc-last, end-block}
 use Rattle.checksum.proofs.FourLaws.{four-lt, four-first, four-started}
 use borrow.Author.Needs.{needs}
 use Rattle.checksum.proofs.block.of_eight.Statement.{statement}
