@@ -31,7 +31,7 @@ ghost use Rattle.card_model.specs.Layout.{rootOf, tableOf, directoryOf};
 ghost use Rattle.card_model.specs.Calls.{lengthRow, tableRows, directoryRows, checkOf, notChecked, notListed, listedEntry, listOf, entryNamed, readRows, readVerdict, leftBy, readBuffer};
 ghost use Rattle.card_model.specs.Files.{filesBefore};
 ghost use Rattle.card_model.specs.Sound.{NoRowRefuses};
-ghost use Rattle.card_directory.specs.Fields.{Head};
+ghost use Rattle.card_directory.specs.Fields.{IsHead};
 ghost use Rattle.card_directory.specs.Listed.{Listed, Holds};
 ghost use Rattle.card_pieces.specs.Marks.{noMarks, MarkedFiles};
 ghost use Rattle.card_games.specs.Rules.{GoodChains};
@@ -63,7 +63,7 @@ fn judge_chains(
     ensures { λ r. ⌜ r .verdict ≡ fileRows (tableOf (now (card .entry))) (directoryOf (now (card .entry))) ⌝ }
     ensures { λ r. ⌜ (accepted (r .verdict) ≡ true → MarkedFiles (tableOf (now (card .entry))) (filesBefore (tableOf (now (card .entry))) (directoryOf (now (card .entry))) 208) (now (marks .exit))) ⌝ }
     ensures { λ r. ⌜ Listed (directoryOf (now (card .entry))) 208 (now (used .exit)) (r .count) ⌝ }
-    ensures { λ r. ⌜ Holds Head (directoryOf (now (card .entry))) (now (used .exit)) (now (heads .exit)) (r .count) ⌝ }
+    ensures { λ r. ⌜ Holds IsHead (directoryOf (now (card .entry))) (now (used .exit)) (now (heads .exit)) (r .count) ⌝ }
 {
     let list = list_used(card, used, heads, tails);
     let count = list.count;
@@ -88,7 +88,7 @@ fn judge_names(
     requires { ⌜ (length (now card) ≡ 131072) × (now slots ≡ replicate 2048 0) × (now next ≡ replicate 208 0) ⌝ }
     requires { ⌜ GoodChains (tableOf (now card)) (directoryOf (now card)) ⌝ }
     requires { ⌜ Listed (directoryOf (now card)) 208 (now used) count ⌝ }
-    requires { ⌜ Holds Head (directoryOf (now card)) (now used) (now heads) count ⌝ }
+    requires { ⌜ Holds IsHead (directoryOf (now card)) (now used) (now heads) count ⌝ }
     ensures { λ r. ⌜ r ≡ nameRows (tableOf (now (card .entry))) (directoryOf (now (card .entry))) ⌝ }
     ensures { λ r. ⌜ (accepted r ≡ true → AllNames (directoryOf (now (card .entry))) (now (used .entry)) (now (slots .exit)) (now (next .exit))) ⌝ }
 {

@@ -6,11 +6,11 @@ use mathlib.Core.List.{List}
 use Rattle.card_model.specs.Entries.{isUsed, wrongEntry}
 use Rattle.card_model.specs.Files.{chain, chainOf}
 use Rattle.card_model.proofs.EntryLaws.{right-entry}
-use Rattle.card_directory.specs.Fields.{Head, Tail, firstIn, sizeIn}
+use Rattle.card_directory.specs.Fields.{IsHead, IsTail, firstIn, sizeIn}
 use Rattle.card_pieces.specs.Marks.{Walked}
 use Rattle.card_chains.specs.Rows.{Passable}
 
-module _ {entry : List ℕ} {head tail : ℕ} (h : Head entry head) (t : Tail entry tail) where
+module _ {entry : List ℕ} {head tail : ℕ} (h : IsHead entry head) (t : IsTail entry tail) where
   pub fields-passable : isUsed entry ≡ true → wrongEntry entry ≡ false → Passable head tail
   fields-passable u r =
       let e = right-entry entry u r in

@@ -16,7 +16,7 @@ use Rattle.words.proofs.SearchLaws.{lowest-nothing}
 use Rattle.words.proofs.LoopLaws.{lowest-here, lowest-next, lowest-end}
 use Rattle.card_model.specs.Entries.{isUsed, wrongEntry, entryAt}
 use Rattle.card_directory.specs.Runs.{Passed}
-use Rattle.card_directory.specs.Fields.{Head, Tail, wrongFields}
+use Rattle.card_directory.specs.Fields.{IsHead, IsTail, wrongFields}
 use Rattle.card_directory.specs.Listed.{NextUsed, reached, Listed, Holds, Gathered}
 use Rattle.card_directory.proofs.FieldLaws.{fields-wrong}
 
@@ -120,13 +120,13 @@ module _ (directory : List (List ℕ)) where
         go j c (no d) = rw (getD-set-other used count j i 0 d, getD-set-other numbers count j x 0 d) (g .at j (omega (arith, d)))
 
   pub gathered-start : (used : List ℕ) {heads tails : List ℕ} → length heads ≡ 208 → length tails ≡ 208 → Gathered directory used heads tails 0
-  gathered-start used p q = record { in-heads = holds-start Head used p; in-tails = holds-start Tail used q }
+  gathered-start used p q = record { in-heads = holds-start IsHead used p; in-tails = holds-start IsTail used q }
 
-  pub gathered-next : (i : ℕ) {used heads tails : List ℕ} {count head tail : ℕ} → length used ≡ 208 → count < 208 → Head (entryAt directory i) head
-      → Tail (entryAt directory i) tail → Gathered directory used heads tails count → (n : ℕ) → n ≤ count + 1
+  pub gathered-next : (i : ℕ) {used heads tails : List ℕ} {count head tail : ℕ} → length used ≡ 208 → count < 208 → IsHead (entryAt directory i) head
+      → IsTail (entryAt directory i) tail → Gathered directory used heads tails count → (n : ℕ) → n ≤ count + 1
       → Gathered directory (set used count i) (set heads count head) (set tails count tail) n
   gathered-next i long b h t g n m =
-      record { in-heads = holds-next Head i long b h (g .in-heads) n m; in-tails = holds-next Tail i long b t (g .in-tails) n m }
+      record { in-heads = holds-next IsHead i long b h (g .in-heads) n m; in-tails = holds-next IsTail i long b t (g .in-tails) n m }
 
 -- a number of the list
 pub listed-below : {directory : List (List ℕ)} {used : List ℕ} {count : ℕ} → Listed directory 208 used count → (j i : ℕ) → i ≡ getD used j 0 → j < count → i < 208

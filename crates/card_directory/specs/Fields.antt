@@ -17,7 +17,7 @@ flagIn head = head / 256 % 256
 unfoldable pub firstIn : ℕ → ℕ
 firstIn head = head / 65536
 
-pub record Head (entry : List ℕ) (head : ℕ) : Type 0 where
+pub record IsHead (entry : List ℕ) (head : ℕ) : Type 0 where
   pub kind-is : kind entry ≡ kindIn head
   pub flag-is : flag entry ≡ flagIn head
   pub first-is : firstBlock entry ≡ firstIn head
@@ -29,7 +29,7 @@ sizeIn tail = tail % 65536
 unfoldable pub offsetIn : ℕ → ℕ
 offsetIn tail = tail / 65536
 
-pub record Tail (entry : List ℕ) (tail : ℕ) : Type 0 where
+pub record IsTail (entry : List ℕ) (tail : ℕ) : Type 0 where
   pub size-is : size entry ≡ sizeIn tail
   pub offset-is : headerOffset entry ≡ offsetIn tail
 

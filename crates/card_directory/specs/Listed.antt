@@ -6,7 +6,7 @@ use mathlib.Core.Bool.{true, false}
 use mathlib.Core.List.{List}
 use lib.ListN.{length, getD}
 use Rattle.card_model.specs.Entries.{isUsed, entryAt}
-use Rattle.card_directory.specs.Fields.{Head, Tail}
+use Rattle.card_directory.specs.Fields.{IsHead, IsTail}
 
 -- i is the first used entry from `start` on, and before `end`.
 pub record NextUsed (directory : List (List ℕ)) (start end i : ℕ) : Type 0 where
@@ -34,5 +34,5 @@ pub record Holds (Of : List ℕ → ℕ → Type 0) (directory : List (List ℕ)
   pub at : (j : ℕ) → j < count → Of (entryAt directory (getD used j 0)) (getD numbers j 0)
 
 pub record Gathered (directory : List (List ℕ)) (used heads tails : List ℕ) (count : ℕ) : Type 0 where
-  pub in-heads : Holds Head directory used heads count
-  pub in-tails : Holds Tail directory used tails count
+  pub in-heads : Holds IsHead directory used heads count
+  pub in-tails : Holds IsTail directory used tails count

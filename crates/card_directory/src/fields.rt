@@ -7,14 +7,14 @@ ghost use Rattle.card_directory.specs.Fields as fields;
 
 pub(crate) fn head(entry: &[u8]) -> u32
     requires { ⌜ length (now entry) ≡ 32 ⌝ }
-    ensures { λ r. ⌜ fields.Head (now (entry .entry)) r ⌝ }
+    ensures { λ r. ⌜ fields.IsHead (now (entry .entry)) r ⌝ }
 {
     (wide(entry[0]) + 256 * wide(entry[1]) + 65536 * word(entry, 0x02)) as u32
 }
 
 pub(crate) fn tail(entry: &[u8]) -> u32
     requires { ⌜ length (now entry) ≡ 32 ⌝ }
-    ensures { λ r. ⌜ fields.Tail (now (entry .entry)) r ⌝ }
+    ensures { λ r. ⌜ fields.IsTail (now (entry .entry)) r ⌝ }
 {
     (word(entry, 0x18) + 65536 * word(entry, 0x1a)) as u32
 }

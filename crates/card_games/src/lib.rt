@@ -20,7 +20,7 @@ ghost use Rattle.card_model.specs.Layout.{tableOf, directoryOf};
 ghost use Rattle.card_model.specs.Entries as model;
 ghost use Rattle.card_model.specs.Files.{chain, orEmpty, rising, breaksGameRule, gameRow};
 ghost use Rattle.card_games.specs.Rules.{GoodChains};
-ghost use Rattle.card_directory.specs.Fields.{Head, isGameIn};
+ghost use Rattle.card_directory.specs.Fields.{IsHead, isGameIn};
 ghost use Rattle.card_directory.specs.Listed.{Listed, Holds};
 
 // Whether an entry before i is a game.
@@ -95,7 +95,7 @@ pub fn game_row(card: &[u8], used: &[u8; 208], heads: &[u32; 208], count: usize)
     requires { ⌜ length (now card) ≡ 131072 ⌝ }
     requires { ⌜ GoodChains (tableOf (now card)) (directoryOf (now card)) ⌝ }
     requires { ⌜ Listed (directoryOf (now card)) 208 (now used) count ⌝ }
-    requires { ⌜ Holds Head (directoryOf (now card)) (now used) (now heads) count ⌝ }
+    requires { ⌜ Holds IsHead (directoryOf (now card)) (now used) (now heads) count ⌝ }
     ensures { λ r. ⌜ r ≡ gameRow (tableOf (now (card .entry))) (directoryOf (now (card .entry))) ⌝ }
 {
     if !any_game(heads, count) {
