@@ -3,7 +3,7 @@ use crate::links::entry_in;
 use card_model::Link;
 use card_pieces::block_on;
 use card_pieces::leads;
-use card_table::class_of;
+use card_table::classify;
 use card_table::fat_entry;
 use card_table::read_table;
 ghost use mathlib.Core.Path.{_≡_};
@@ -51,7 +51,7 @@ pub(crate) fn walk(table: &[u16; 256], marks: &mut [u8; 200], block: usize, left
     }
     marks[block] = own;
     let e = entry_in(table, block);
-    match class_of(e) {
+    match classify(e) {
         Link::Last => ended(left == 1, APART),
         Link::Next(n) => walk(table, marks, n, left - 1),
         Link::Free => BROKEN,
@@ -70,7 +70,7 @@ fn follow(table: &[u16; 256], block: usize, left: usize) -> usize
         return block;
     }
     let e = entry_in(table, block);
-    match class_of(e) {
+    match classify(e) {
         Link::Next(n) => follow(table, n, left - 1),
         Link::Last => block,
         Link::Free => block,

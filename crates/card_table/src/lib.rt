@@ -69,16 +69,6 @@ pub fn classify(e: usize) -> Link
     }
 }
 
-// The same, with the class of most entries of a card with files first: the match tests its single numbers before its range.
-pub fn class_of(e: usize) -> Link
-    ensures { λ r. ⌜ r ≡ linkOf e ⌝ }
-{
-    if e < 200 {
-        return Link::Next(e);
-    }
-    classify(e)
-}
-
 pub fn free_or_damaged(link: Link) -> bool
     ensures { λ r. ⌜ r ≡ freeOrDamaged link ⌝ }
 {
@@ -123,7 +113,7 @@ fn is_wrong(card: &[u8], region: Region, b: usize) -> bool
     match region {
         Region::System => e != system_entry(b),
         Region::Hidden => !free_or_damaged(classify(e)),
-        Region::User => is_bad(class_of(e)),
+        Region::User => is_bad(classify(e)),
     }
 }
 

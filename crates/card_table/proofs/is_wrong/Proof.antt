@@ -30,8 +30,8 @@ free-or-damaged-requires c κs = search needs
 enum-told-3 : tie.Need-enum-told-3
 enum-told-3 c = search needs
 
-class-of-requires : tie.Need-class-of-requires
-class-of-requires c κs = search needs
+classify-requires-2 : tie.Need-classify-requires-2
+classify-requires-2 c κs = search needs
 
 is-bad-requires : tie.Need-is-bad-requires
 is-bad-requires c κs = search needs
@@ -52,7 +52,7 @@ returns-3 : tie.Need-returns-3
 unfolding wrongUser linkAt
 returns-3 c =
     let t = c .before .before in
-    rw (t .enum-told3 .given .1, c .is-bad .ensures, c .before .class-of .ensures, t .before .before .fat-entry .ensures .0)
+    rw (t .enum-told3 .given .1, c .is-bad .ensures, c .before .classify2 .ensures, t .before .before .fat-entry .ensures .0)
 
 pub is-wrong-spec : {M : Type 1} → statement M
 is-wrong-spec =
@@ -65,7 +65,7 @@ is-wrong-spec =
     classify-requires
     free-or-damaged-requires
     enum-told-3
-    class-of-requires
+    classify-requires-2
     is-bad-requires
     returns
     returns-2

@@ -11,7 +11,7 @@ use Rattle.card_chains.proofs.walking.follow.Reads as follow
 use Rattle.card_chains.proofs.walking.follow.Kinds as follow-kinds
 use Rattle.card_chains.proofs.walking.+follow.Lts-follow as follow-lts
 use Rattle.card_chains.proofs.links.entry_in.Reads as entry-in-reads
-use Rattle.card_table.proofs.class_of.Reads as class-of-reads
+use Rattle.card_table.proofs.classify.Reads as classify-reads
 use Rattle.card_chains.proofs.walking.+follow.{statement}
 use Rattle.card_chains.proofs.walking.+follow.Tie.{close}
 
@@ -28,8 +28,8 @@ abbrev calls : ℕ → follow-lts.Claims
 calls t = (
   entry-in-reads.Asked,
   entry-in-reads.Learnt,
-  class-of-reads.Asked,
-  class-of-reads.Learnt,
+  classify-reads.Asked,
+  classify-reads.Learnt,
   follow-below t,
   follow.Post,
 )
@@ -41,8 +41,8 @@ module _ (t : ℕ) where
   entry-in-requires : follow-lts.Need-entry-in-requires (calls t) (follow-at t) follow.Post
   entry-in-requires c κs = search needs
 
-  class-of-requires : follow-lts.Need-class-of-requires (calls t) (follow-at t) follow.Post
-  class-of-requires c κs = search needs
+  classify-requires : follow-lts.Need-classify-requires (calls t) (follow-at t) follow.Post
+  classify-requires c κs = search needs
 
   enum-known-n : follow-lts.Need-enum-known-n (calls t) (follow-at t) follow.Post
   enum-known-n c = search needs
@@ -54,7 +54,7 @@ module _ (t : ℕ) where
   follow-requires c κs =
       let n = c .before in
       let k = n .before .before in
-      let link = link-read _ _ (k .before .entry-in .ensures .0) (k .class-of .ensures) in
+      let link = link-read _ _ (k .before .entry-in .ensures .0) (k .classify .ensures) in
       (omega arith, step-below _ _ _ (sym link ∙ n .n .given .1))
 
   enum-told : follow-lts.Need-enum-told (calls t) (follow-at t) follow.Post
@@ -74,42 +74,42 @@ module _ (t : ℕ) where
       let n = c .before .before in
       let k = n .before .before in
       let l = k .before in
-      let link = link-read _ _ (l .entry-in .ensures .0) (k .class-of .ensures) in
+      let link = link-read _ _ (l .entry-in .ensures .0) (k .classify .ensures) in
       (after-next _ _ _ (l .before .if1 .left) link _ _ (n .n .given .1) (c .follow .ensures .0), search needs)
 
   returns-3 : follow-lts.Need-returns-3 (calls t) (follow-at t) follow.Post
   returns-3 c =
       let k = c .before .before in
       let l = k .before in
-      let link = link-read _ _ (l .entry-in .ensures .0) (k .class-of .ensures) in
+      let link = link-read _ _ (l .entry-in .ensures .0) (k .classify .ensures) in
       (after-stop _ _ _ (l .before .if1 .left) link _ (c .enum-told .given .1) tt, search needs)
 
   returns-4 : follow-lts.Need-returns-4 (calls t) (follow-at t) follow.Post
   returns-4 c =
       let k = c .before .before in
       let l = k .before in
-      let link = link-read _ _ (l .entry-in .ensures .0) (k .class-of .ensures) in
+      let link = link-read _ _ (l .entry-in .ensures .0) (k .classify .ensures) in
       (after-stop _ _ _ (l .before .if1 .left) link _ (c .enum-told2 .given .1) tt, search needs)
 
   returns-5 : follow-lts.Need-returns-5 (calls t) (follow-at t) follow.Post
   returns-5 c =
       let k = c .before .before in
       let l = k .before in
-      let link = link-read _ _ (l .entry-in .ensures .0) (k .class-of .ensures) in
+      let link = link-read _ _ (l .entry-in .ensures .0) (k .classify .ensures) in
       (after-stop _ _ _ (l .before .if1 .left) link _ (c .enum-told3 .given .1) tt, search needs)
 
   returns-6 : follow-lts.Need-returns-6 (calls t) (follow-at t) follow.Post
   returns-6 c =
       let k = c .before .before in
       let l = k .before in
-      let link = link-read _ _ (l .entry-in .ensures .0) (k .class-of .ensures) in
+      let link = link-read _ _ (l .entry-in .ensures .0) (k .classify .ensures) in
       (after-stop _ _ _ (l .before .if1 .left) link _ (c .enum-told4 .given .1) tt, search needs)
 
 pub +follow-spec : {M : Type 1} → statement M
 +follow-spec = close μ-follow λ t. follow-lts.spec (calls t) (follow-at t) follow.Post
     (returns t)
     (entry-in-requires t)
-    (class-of-requires t)
+    (classify-requires t)
     (enum-known-n t)
     (sub-follow t)
     (follow-requires t)

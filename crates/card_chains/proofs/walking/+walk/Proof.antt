@@ -13,7 +13,7 @@ use Rattle.card_chains.proofs.walking.walk.Kinds as walk-kinds
 use Rattle.card_chains.proofs.walking.+walk.Lts-walk as walk-lts
 use Rattle.card_chains.proofs.walking.ended.Reads as ended-reads
 use Rattle.card_chains.proofs.links.entry_in.Reads as entry-in-reads
-use Rattle.card_table.proofs.class_of.Reads as class-of-reads
+use Rattle.card_table.proofs.classify.Reads as classify-reads
 use Rattle.card_chains.proofs.walking.+walk.{statement}
 use Rattle.card_chains.proofs.walking.+walk.Tie.{close}
 
@@ -32,8 +32,8 @@ calls t = (
   ended-reads.Learnt,
   entry-in-reads.Asked,
   entry-in-reads.Learnt,
-  class-of-reads.Asked,
-  class-of-reads.Learnt,
+  classify-reads.Asked,
+  classify-reads.Learnt,
   walk-below t,
   walk.Post,
 )
@@ -61,8 +61,8 @@ module _ (t : ℕ) where
   entry-in-requires : walk-lts.Need-entry-in-requires (calls t) (walk-at t) walk.Post
   entry-in-requires c κs = search needs
 
-  class-of-requires : walk-lts.Need-class-of-requires (calls t) (walk-at t) walk.Post
-  class-of-requires c κs = search needs
+  classify-requires : walk-lts.Need-classify-requires (calls t) (walk-at t) walk.Post
+  classify-requires c κs = search needs
 
   enum-told : walk-lts.Need-enum-told (calls t) (walk-at t) walk.Post
   enum-told c = search needs
@@ -83,7 +83,7 @@ module _ (t : ℕ) where
       let l = k .before in
       let d = l .before .before .before in
       let s = d .before in
-      let told = sym (link-read _ _ (l .entry-in .ensures .0) (k .class-of .ensures)) ∙ n .n .given .1 in
+      let told = sym (link-read _ _ (l .entry-in .ensures .0) (k .classify .ensures)) ∙ n .n .given .1 in
       (omega arith, next-asked _ _ _ _ (s .pre .1 .1) (d .if1 .left) (s .pre .1 .0 .0) (l .before .if2 .left) _ told (s .pre .1 .0 .1))
 
   enum-told-2 : walk-lts.Need-enum-told-2 (calls t) (walk-at t) walk.Post
@@ -102,7 +102,7 @@ module _ (t : ℕ) where
       let l = k .before in
       let d = l .before .before .before in
       let s = d .before in
-      let step = chain-step _ _ _ (d .if1 .left) (link-read _ _ (l .entry-in .ensures .0) (k .class-of .ensures)) (c .before .enum-told .given .1) in
+      let step = chain-step _ _ _ (d .if1 .left) (link-read _ _ (l .entry-in .ensures .0) (k .classify .ensures)) (c .before .enum-told .given .1) in
       walked-last _ _ _ _ (s .pre .1 .1) (d .if1 .left) (s .pre .1 .0 .0) (l .before .if2 .left) step (c .ended2 .ensures)
 
   returns-4 : walk-lts.Need-returns-4 (calls t) (walk-at t) walk.Post
@@ -112,7 +112,7 @@ module _ (t : ℕ) where
       let l = k .before in
       let d = l .before .before .before in
       let s = d .before in
-      let told = sym (link-read _ _ (l .entry-in .ensures .0) (k .class-of .ensures)) ∙ n .n .given .1 in
+      let told = sym (link-read _ _ (l .entry-in .ensures .0) (k .classify .ensures)) ∙ n .n .given .1 in
       walked-next _ _ _ _ (s .pre .1 .1) (d .if1 .left) (s .pre .1 .0 .0) (l .before .if2 .left) _ told (c .walk .ensures)
 
   returns-5 : walk-lts.Need-returns-5 (calls t) (walk-at t) walk.Post
@@ -120,7 +120,7 @@ module _ (t : ℕ) where
   returns-5 c =
       let k = c .before .before in
       let l = k .before in
-      let link = link-read _ _ (l .entry-in .ensures .0) (k .class-of .ensures) in
+      let link = link-read _ _ (l .entry-in .ensures .0) (k .classify .ensures) in
       walked-broken _ _ _ (chain-step _ _ _ (l .before .before .before .if1 .left) link (c .enum-told2 .given .1))
 
   returns-6 : walk-lts.Need-returns-6 (calls t) (walk-at t) walk.Post
@@ -128,7 +128,7 @@ module _ (t : ℕ) where
   returns-6 c =
       let k = c .before .before in
       let l = k .before in
-      let link = link-read _ _ (l .entry-in .ensures .0) (k .class-of .ensures) in
+      let link = link-read _ _ (l .entry-in .ensures .0) (k .classify .ensures) in
       walked-broken _ _ _ (chain-step _ _ _ (l .before .before .before .if1 .left) link (c .enum-told3 .given .1))
 
   returns-7 : walk-lts.Need-returns-7 (calls t) (walk-at t) walk.Post
@@ -136,7 +136,7 @@ module _ (t : ℕ) where
   returns-7 c =
       let k = c .before .before in
       let l = k .before in
-      let link = link-read _ _ (l .entry-in .ensures .0) (k .class-of .ensures) in
+      let link = link-read _ _ (l .entry-in .ensures .0) (k .classify .ensures) in
       walked-broken _ _ _ (chain-step _ _ _ (l .before .before .before .if1 .left) link (c .enum-told4 .given .1))
 
 pub +walk-spec : {M : Type 1} → statement M
@@ -148,7 +148,7 @@ pub +walk-spec : {M : Type 1} → statement M
     (returns-2 t)
     (element-write-marks t)
     (entry-in-requires t)
-    (class-of-requires t)
+    (classify-requires t)
     (enum-told t)
     (ended-requires-2 t)
     (enum-known-n t)
