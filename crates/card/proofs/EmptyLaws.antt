@@ -17,7 +17,7 @@ use Rattle.card_directory.proofs.DirectoryLaws.{unused-right}
 use Rattle.card_directory.proofs.ListedLaws.{listed-start, listed-over, stays-to-end}
 use Rattle.card_names.proofs.NameLaws.{unused-free}
 use Rattle.card_games.proofs.GameLaws.{unused-game}
-use Rattle.card_pieces.specs.Marks.{noMarks, MarkedFiles}
+use Rattle.card_chains.specs.Marks.{noMarks, MarkedFiles}
 use Rattle.card_chains.proofs.MarkLaws.{lengths-start, marking-start, files-stay, unused-bad, unused-shares}
 
 nothing-wrong : (n k : ℕ) (p : ℕ → Bool) → ((i : ℕ) → i < k → p i ≡ false) → rowOver n Entry (lowest p 0 k) ≡ done

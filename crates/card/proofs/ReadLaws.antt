@@ -21,7 +21,7 @@ use Rattle.card_model.specs.Files.{chain, fileOf}
 use Rattle.card_model.specs.Calls.{entryNamed, readRows, fileBlock, leftBy}
 use Rattle.card_model.specs.Sound.{NoRowRefuses}
 use Rattle.card_model.proofs.EntryLaws.{right-entry, file-chain}
-use Rattle.card_pieces.specs.Marks.{IsAfter}
+use Rattle.card_chains.specs.Marks.{IsAfter}
 
 -- an entry that a name found is in the directory
 pub named-below : (directory : List (List ℕ)) (name : List ℕ) (i : ℕ) → entryNamed directory name ≡ some i → i < 208

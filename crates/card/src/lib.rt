@@ -33,7 +33,7 @@ ghost use Rattle.card_model.specs.Files.{filesBefore};
 ghost use Rattle.card_model.specs.Sound.{NoRowRefuses};
 ghost use Rattle.card_directory.specs.Fields.{IsHead};
 ghost use Rattle.card_directory.specs.Listed.{Listed, Holds};
-ghost use Rattle.card_pieces.specs.Marks.{noMarks, MarkedFiles};
+ghost use Rattle.card_chains.specs.Marks.{noMarks, MarkedFiles};
 ghost use Rattle.card_games.specs.Rules.{GoodChains};
 ghost use Rattle.card_names.specs.Slots.{AllNames};
 ghost use Rattle.card.specs.Parts.{fileRows, nameRows};

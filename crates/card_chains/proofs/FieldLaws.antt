@@ -7,7 +7,7 @@ use Rattle.card_model.specs.Entries.{isUsed, wrongEntry}
 use Rattle.card_model.specs.Files.{chain, chainOf}
 use Rattle.card_model.proofs.EntryLaws.{right-entry}
 use Rattle.card_directory.specs.Fields.{IsHead, IsTail, firstIn, sizeIn}
-use Rattle.card_pieces.specs.Marks.{Walked}
+use Rattle.card_chains.specs.Marks.{Walked}
 use Rattle.card_chains.specs.Rows.{Passable}
 
 module _ {entry : List ℕ} {head tail : ℕ} (h : IsHead entry head) (t : IsTail entry tail) where

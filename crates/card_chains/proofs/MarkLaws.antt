@@ -18,8 +18,8 @@ use Rattle.card_model.specs.Entries.{isUsed, entryAt}
 use Rattle.card_model.specs.Files.{chain, chainOf, badChain, fileOf, filesBefore, sharesBlock, isOrphan, orphans}
 use Rattle.card_model.proofs.EntryLaws.{file-chain, no-file, files-snoc}
 use Rattle.card_model.proofs.ChainLaws.{chain-head, chain-used}
-use Rattle.card_pieces.specs.Marks.{noMarks, isMarked, Lengths, Marking, MarkedFiles, outcome, answer, Walked, isBroken, isShared}
-use Rattle.card_pieces.proofs.MarkLaws.{any-same}
+use Rattle.card_chains.specs.Marks.{noMarks, isMarked, Lengths, Marking, MarkedFiles, outcome, answer, Walked, isBroken, isShared}
+use Rattle.card_chains.proofs.SetLaws.{any-same}
 use Rattle.card_chains.specs.Counts.{isInUse, countTo}
 
 -- ---- the file of a used entry

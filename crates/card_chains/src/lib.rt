@@ -11,8 +11,6 @@ use card_directory::fields::first_in;
 use card_directory::fields::size_in;
 use card_directory::listing::fields_at;
 use card_directory::listing::listed_at;
-use card_pieces::pass_pieces;
-use card_pieces::take_one;
 use card_table::classify;
 use card_table::fat_entry;
 use card_table::free_or_damaged;
@@ -34,11 +32,11 @@ ghost use Rattle.card_model.specs.Files.{chain, filesBefore, orphans};
 ghost use Rattle.card_model.specs.Sound.{entryOn};
 ghost use Rattle.card_directory.specs.Fields.{firstIn, sizeIn};
 ghost use Rattle.card_directory.specs.Listed.{Listed, Gathered};
-ghost use Rattle.card_pieces.specs.Marks.{noMarks, isMarked, Lengths, MarkedFiles, Walked};
+ghost use Rattle.card_chains.specs.Marks.{noMarks, isMarked, Lengths, MarkedFiles, Walked};
 ghost use Rattle.card_chains.specs.Rows.{Passable, chainRows};
 ghost use Rattle.card_chains.specs.Counts.{isInUse, countTo};
 
-// The walk along the file of number j of the list. What lies in pieces is passed before it.
+// The walk along the file of number j of the list.
 fn walk_file(
     card: &[u8],
     table: &[u16; 256],
@@ -54,11 +52,7 @@ fn walk_file(
 {
     let first = first_in(fields_at(heads, j));
     let size = size_in(fields_at(tails, j));
-    if take_one(card, marks, first, size) {
-        return APART;
-    }
-    let rest = pass_pieces(card, marks, first, size);
-    walk(table, marks, rest.block, rest.left)
+    walk(table, marks, first, size)
 }
 
 // The first entry that shares a block: the one remembered, or else this one. 208 is none.

@@ -1,10 +1,7 @@
 // Walks along a chain, with one fewer block left at each step.
 use crate::links::entry_in;
 use card_model::Link;
-use card_pieces::block_on;
-use card_pieces::leads;
 use card_table::classify;
-use card_table::fat_entry;
 use card_table::read_table;
 ghost use mathlib.Core.Path.{_≡_};
 ghost use mathlib.Core.Bool.{cond};
@@ -12,7 +9,7 @@ ghost use Prim.Native.Nat.{_≤_, _<_};
 ghost use lib.ListN.{length};
 ghost use Rattle.card_model.specs.Layout.{tableOf};
 ghost use Rattle.card_model.specs.Files.{chain};
-ghost use Rattle.card_pieces.specs.Marks.{broken, Walkable, Walked, IsAfter};
+ghost use Rattle.card_chains.specs.Marks.{broken, Walkable, Walked, IsAfter};
 
 // What the walk along a chain found: no marked block, one that was marked before, or a bad chain. These are plain numbers because
 // an enum would come back through memory, and then the compiler doesn't make a loop of the recursion.
@@ -79,16 +76,12 @@ fn follow(table: &[u16; 256], block: usize, left: usize) -> usize
     }
 }
 
-// The same over the card's table. Steps that all go to neighbours, as most do, need no walk and no copy of the table.
+// The same over the card's table.
 pub fn block_after(card: &[u8], block: usize, left: usize) -> usize
     requires { ⌜ (length (now card) ≡ 131072) × (block < 200) ⌝ }
     ensures { λ r. ⌜ IsAfter (tableOf (now (card .entry))) block left r ⌝ }
     ensures { λ r. ⌜ r < 200 ⌝ }
 {
-    let down = fat_entry(card, block) < block;
-    if leads(card, down, block, left) {
-        return block_on(down, block, left);
-    }
     let table = read_table(card);
     follow(&table, block, left)
 }

@@ -5,7 +5,6 @@ use mathlib.Core.Bool.{Bool, false}
 use mathlib.Core.List.{List, map}
 use mathlib.Core.Option.{none, some}
 use native.Mathlib.Omega.{arith}
-use borrow.Author.Tests.{ne-eqb, lt-ltb}
 use native.Mathlib.Decide.{ℕ-discrete}
 use lib.ListN.{length, getD, take, drop, set, length-set, length-map}
 use lib.Seq.{getD-take, getD-drop, getD-set-same, getD-set-other, ext-getD}
@@ -21,8 +20,7 @@ use Rattle.verdicts.specs.declared.Place.the-variants.{Block}
 use Rattle.verdicts.specs.Rows.{done, refusedAt, unlessRefused}
 use Rattle.verdicts.proofs.RowLaws.{refused-first, not-refused, rows-joined}
 use Rattle.card_model.specs.Layout.{fatPlace, tableOf}
-use Rattle.card_model.specs.declared.Link.the-variants.{Next}
-use Rattle.card_model.specs.Table.{fatEntry, linkOf, magicRow, fieldsRow, wrongSystem, wrongHidden, wrongUser, systemRow, hiddenRow, userRow}
+use Rattle.card_model.specs.Table.{fatEntry, magicRow, fieldsRow, wrongSystem, wrongHidden, wrongUser, systemRow, hiddenRow, userRow}
 use Rattle.card_model.specs.Calls.{tableRows}
 use Rattle.card_table.specs.declared.Region.{Region}
 use Rattle.card_table.specs.declared.Region.the-variants.{System, Hidden, User}
@@ -59,12 +57,6 @@ unfolding fatEntry tableOf
 read-all card table b e h =
     let n : length (map (λ i. word card (fatPlace i)) (numbersFrom 0 256)) ≡ 256 = length-map (numbersFrom 0 256) (λ i. word card (fatPlace i)) ∙ numbers-length 0 256 in
     ext-getD 0 table (map (λ i. word card (fatPlace i)) (numbersFrom 0 256)) (h .0 ∙ sym n) (λ i k. h .1 i (omega (arith, h .0)))
-
--- an entry below 200 names a block
-pub names-next : (e : ℕ) → e < 200 → linkOf e ≡ Next e
-unfolding linkOf
-names-next e h =
-    simp (ne-eqb e 0xFFFC (λ q. omega (arith, h, q)), ne-eqb e 0xFFFF (λ q. omega (arith, h, q)), ne-eqb e 0xFFFA (λ q. omega (arith, h, q)), lt-ltb e 200 h)
 
 -- what a region asks of its first block it has of every later one
 pub ready-later : (region : Region) (a b : ℕ) → a ≤ b → Ready region a → Ready region b

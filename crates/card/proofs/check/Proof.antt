@@ -1,7 +1,7 @@
 -- `check` meets its contract. Assumes nothing.
 use mathlib.Core.Path.{refl, ap, _∙_}
 use borrow.Author.Tests.{eq-eqb}
-use Rattle.card_pieces.specs.Marks.{noMarks}
+use Rattle.card_chains.specs.Marks.{noMarks}
 use Rattle.card_model.specs.Calls.{notChecked}
 use Rattle.card.proofs.JudgeLaws.{not-20, wrong-length, right-length, table-refused, past-table}
 use Rattle.card.proofs.AnswerLaws.{check-refused, check-passed}

@@ -1,6 +1,6 @@
 -- `list` meets its contract. Assumes nothing.
 use mathlib.Core.Path.{refl, sym, ap, _∙_}
-use Rattle.card_pieces.specs.Marks.{noMarks}
+use Rattle.card_chains.specs.Marks.{noMarks}
 use Rattle.card_model.specs.Layout.{directoryOf}
 use Rattle.card_model.specs.Calls.{notListed, listedEntry}
 use Rattle.card_directory.proofs.DirectoryLaws.{found-some, found-none}

@@ -1,7 +1,7 @@
 -- `read` meets its contract. Assumes nothing.
 use mathlib.Core.Path.{refl, _∙_}
 use borrow.Author.Tests.{eq-eqb}
-use Rattle.card_pieces.specs.Marks.{noMarks}
+use Rattle.card_chains.specs.Marks.{noMarks}
 use Rattle.card_model.specs.Layout.{tableOf, directoryOf}
 use Rattle.card.proofs.JudgeLaws.{table-refused, long, past-table, chains-refused, past-chains, good-chains}
 use Rattle.card.proofs.AnswerLaws.{rows-hold, read-refused, read-passed}

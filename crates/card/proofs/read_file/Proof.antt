@@ -5,7 +5,7 @@ use native.Mathlib.Omega.{arith}
 use Rattle.card_model.specs.Layout.{cardLength, tableOf, directoryOf}
 use Rattle.card_model.specs.Calls.{entryNamed}
 use Rattle.card_directory.proofs.DirectoryLaws.{found-some, found-none}
-use Rattle.card_pieces.specs.Marks.{IsAfter}
+use Rattle.card_chains.specs.Marks.{IsAfter}
 use Rattle.card.proofs.ReadLaws.{named-below, wrong-name, wrong-block, no-file, past-end, first-below, in-file}
 use borrow.Author.Needs.{needs}
 use Rattle.card.proofs.read_file.Statement.{statement}

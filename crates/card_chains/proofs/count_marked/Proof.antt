@@ -2,7 +2,7 @@
 use Prim.Native.Nat.{_+_, _-_, _≤_}
 use mathlib.Core.Path.{_≡_}
 use native.Mathlib.Omega.{arith}
-use Rattle.card_pieces.specs.Marks.{isMarked}
+use Rattle.card_chains.specs.Marks.{isMarked}
 use Rattle.card_chains.specs.Counts.{countTo}
 use Rattle.card_chains.proofs.MarkLaws.{countFrom, count-step, count-end, count-all}
 use borrow.Author.Needs.{needs}

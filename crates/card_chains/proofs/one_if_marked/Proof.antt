@@ -1,6 +1,6 @@
 -- `one_if_marked` meets its contract. Assumes nothing.
 use borrow.Author.Tests.{eq-eqb, ne-eqb}
-use Rattle.card_pieces.specs.Marks.{isMarked}
+use Rattle.card_chains.specs.Marks.{isMarked}
 use borrow.Author.Needs.{needs}
 use Rattle.card_chains.proofs.one_if_marked.Statement.{statement}
 use Rattle.card_chains.proofs.one_if_marked.Tie as tie

@@ -17,7 +17,7 @@ use Rattle.card_model.specs.Entries.{entryAt}
 use Rattle.card_model.specs.Files.{badChain, chainRow, filesBefore, sharesBlock, sharingRow}
 use Rattle.card_directory.specs.Listed.{reached, Listed}
 use Rattle.card_directory.proofs.ListedLaws.{reached-next, listed-below, listed-used, holds-at, stays, stays-to-end, firstFrom, found-here, found-later, found-none}
-use Rattle.card_pieces.specs.Marks.{Lengths, Marking, isShared}
+use Rattle.card_chains.specs.Marks.{Lengths, Marking, isShared}
 use Rattle.card_chains.specs.Rows.{chainRows}
 use Rattle.card_chains.proofs.MarkLaws.{lengths-start, marking-start, files-stay, unused-bad, unused-shares, walk-broken, walk-lengths, walk-shares, walk-marking}
 use Rattle.card_chains.proofs.FirstLaws.{orEnd, firstBefore, before-same, first-next, still-none, first-some, first-none}

@@ -2,7 +2,7 @@
 use mathlib.Core.Path.{refl, sym, _∙_}
 use native.Mathlib.Omega.{arith}
 use Rattle.card_chains.proofs.LinkLaws.{link-read}
-use Rattle.card_pieces.proofs.WalkLaws.{step-below, after-none, after-next, after-stop}
+use Rattle.card_chains.proofs.WalkLaws.{step-below, after-none, after-next, after-stop}
 use borrow.Author.Needs.{needs}
 use Prim.Native.Nat.{ℕ, _<_}
 use borrow.Fn.Kinds.{In}

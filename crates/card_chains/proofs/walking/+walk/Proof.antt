@@ -4,7 +4,7 @@ use mathlib.Core.Path.{refl, sym, _∙_}
 use native.Mathlib.Omega.{arith}
 use Rattle.card_model.specs.Files.{chainStep}
 use Rattle.card_chains.proofs.LinkLaws.{link-read}
-use Rattle.card_pieces.proofs.WalkLaws.{chain-none, chain-step, walked-broken, walked-met, walked-last, next-asked, walked-next}
+use Rattle.card_chains.proofs.WalkLaws.{chain-none, chain-step, walked-broken, walked-met, walked-last, next-asked, walked-next}
 use borrow.Author.Needs.{needs}
 use borrow.Fn.Kinds.{In}
 use borrow.Fn.PlainCycle.{Measures, is, falls, and}

@@ -8,7 +8,7 @@ use lib.ListN.{length, getD, set}
 use lib.Seq.{getD-set-same, getD-set-other}
 use borrow.Author.Tests.{eqb-true, eqb-false, eq-eqb, ne-eqb}
 use Rattle.words.specs.Lists.{anyOf, has}
-use Rattle.card_pieces.specs.Marks.{isMarked}
+use Rattle.card_chains.specs.Marks.{isMarked}
 
 module _ (marks : List ℕ) (b v : ℕ) (h : b < length marks) where
   pub marked-set : (v ≡ 0 → ⊥) → (x : ℕ) → isMarked (set marks b v) x ≡ (eqb b x || isMarked marks x)

@@ -16,8 +16,8 @@ use Rattle.card_model.specs.Table.{linkAt}
 use Rattle.card_model.specs.Files.{chainStep, chain}
 use Rattle.card_model.proofs.TableLaws.{next-below}
 use Rattle.card_model.proofs.ChainLaws.{Links, ends, goes, links-same, chain-links, chain-head, chain-distinct}
-use Rattle.card_pieces.specs.Marks.{isMarked, Lengths, outcome, broken, Walkable, Walked, IsAfter}
-use Rattle.card_pieces.proofs.MarkLaws.{marked-set, set-each, any-same}
+use Rattle.card_chains.specs.Marks.{isMarked, Lengths, outcome, broken, Walkable, Walked, IsAfter}
+use Rattle.card_chains.proofs.SetLaws.{marked-set, set-each, any-same}
 
 pub step-below : (table : List ℕ) (b n : ℕ) → linkAt table b ≡ Next n → n < 200
 unfolding linkAt

@@ -1,3 +1,0 @@
-pub mod MarkLaws
-pub mod WalkLaws
-pub mod PieceLaws
