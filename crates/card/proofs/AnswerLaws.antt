@@ -9,14 +9,11 @@ use lib.ListN.{length, take, drop, replicate, length-take, length-drop}
 use Rattle.words.proofs.SearchLaws.{lowest-some}
 use Rattle.words.proofs.PartsLaws.{copied-over}
 use Rattle.verdicts.specs.declared.Verdict.{Verdict}
-use Rattle.verdicts.specs.Rows.{accepted}
 use Rattle.card_model.specs.declared.Checked.{Checked}
 use Rattle.card_model.specs.Layout.{tableOf, directoryOf}
 use Rattle.card_model.specs.Entries.{nameOf, timeOf}
 use Rattle.card_model.specs.Files as files
 use Rattle.card_model.specs.Calls.{verdictOf, checkOf, notChecked, notListed, firstUsed, listedFrom, listOf, entryNamed, readRows, readVerdict, leftBy, readBuffer}
-use Rattle.card_model.specs.Sound.{NoRowRefuses}
-use Rattle.card_model.proofs.SoundLaws.{accepted-rows}
 
 module _ (card : List ℕ) (v : Verdict) (e : v ≡ verdictOf card) where
   pub check-refused : (v .number ≡ 0 → ⊥) → notChecked v ≡ checkOf card
@@ -27,9 +24,6 @@ module _ (card : List ℕ) (v : Verdict) (e : v ≡ verdictOf card) where
       → _≡_ {A = Checked} (record { verdict = v; orphans = o }) (checkOf card)
   unfolding checkOf
   check-passed z o q = rw (← e, eq-eqb (v .number) 0 z, q)
-
-  pub rows-hold : v .number ≡ 0 → NoRowRefuses card
-  rows-hold z = accepted-rows card (ap accepted (sym e) ∙ eq-eqb (v .number) 0 z)
 
   -- ---- list
 

@@ -1,4 +1,2 @@
-pub mod JudgeLaws
-pub mod EmptyLaws
 pub mod AnswerLaws
 pub mod ReadLaws

@@ -18,26 +18,20 @@ use Rattle.verdicts.specs.Rows.{refusedAt}
 use Rattle.card_model.specs.Layout.{cardLength, blockAt, tableOf, directoryOf}
 use Rattle.card_model.specs.Entries.{firstBlock, size, isUsed, entryAt, isNamed}
 use Rattle.card_model.specs.Files.{chain, fileOf}
-use Rattle.card_model.specs.Calls.{entryNamed, readRows, fileBlock, leftBy}
-use Rattle.card_model.specs.Sound.{NoRowRefuses}
+use Rattle.card_model.specs.Calls.{entryNamed, indexRow, readRows, fileBlock, leftBy}
+use Rattle.card_model.specs.Sound.{NoRowRefuses, UsedEntry}
 use Rattle.card_model.proofs.EntryLaws.{right-entry, file-chain}
-use Rattle.card_chains.specs.Marks.{IsAfter}
+use Rattle.card_chains.specs.Steps.{blockAfter}
+use Rattle.card_chains.proofs.StepLaws.{block-of-chain}
 
--- an entry that a name found is in the directory
-pub named-below : (directory : List (List ℕ)) (name : List ℕ) (i : ℕ) → entryNamed directory name ≡ some i → i < 208
-unfolding entryNamed
-named-below directory name i e =
-    let l = lowest-some (λ j. isNamed name (entryAt directory j)) 0 208 i e in
-    omega (arith, l .high)
+-- an entry that a name found is in the directory, and used
+pub named-used : (card name : List ℕ) (i : ℕ) → entryNamed (directoryOf card) name ≡ some i → UsedEntry card i
+unfolding entryNamed isNamed
+named-used card name i e =
+    let l = lowest-some (λ j. isNamed name (entryAt (directoryOf card) j)) 0 208 i e in
+    record { in-directory = omega (arith, l .high); is-used = and-true-left _ _ (l .passes) }
 
--- the part of the card that is copied
-abbrev part : List ℕ → ℕ → List ℕ
-part card b = take (b * 512 + 512 - b * 512) (drop (b * 512) card)
-
-module _ (card : List ℕ) (rows : NoRowRefuses card) (name : List ℕ) (index : ℕ) (buffer : List ℕ) where
-  abbrev table : List ℕ
-  table = tableOf card
-
+module _ (card name : List ℕ) (index : ℕ) (buffer : List ℕ) where
   abbrev directory : List (List ℕ)
   directory = directoryOf card
 
@@ -62,31 +56,39 @@ module _ (card : List ℕ) (rows : NoRowRefuses card) (name : List ℕ) (index :
     unfolding readRows
     no-file r e q = refused 31 r refl e (rw (n, l, q))
 
-    -- s is the entry that was found
-    module _ (i : ℕ) (q : entryNamed directory name ≡ some i) (s : List ℕ) (es : s ≡ entryAt directory i) where
-      pub past-end : (r : Verdict) → r ≡ refusedAt 32 Whole → size s ≤ index → ReadAs r buffer
-      unfolding readRows
-      past-end r e h = refused 32 r refl e (rw (n, l, q, ← es, le-leb (size s) index h))
+    pub of-entry : (i : ℕ) → entryNamed directory name ≡ some i → (r : Verdict) → r ≡ indexRow directory index (some i)
+        → (left : List ℕ) → left ≡ leftBy r card index (some i) buffer → ReadAs r left
+    unfolding readRows
+    of-entry i q r e left w = record { verdict-is = e ∙ rw (n, l, q); buffer-is = w ∙ rw q }
 
-      used : isUsed s ≡ true
-      unfolding entryNamed isNamed
-      used = rw es (and-true-left _ _ (lowest-some (λ j. isNamed name (entryAt directory j)) 0 208 i q .passes))
+-- ---- the block at an index of entry i's file, where s is the entry
 
-      pub first-below : firstBlock s < 200
-      first-below = right-entry s used (rw es (rows .entries i (named-below directory name i q))) .0
+-- the part of the card that is copied
+abbrev part : List ℕ → ℕ → List ℕ
+part card b = take (b * 512 + 512 - b * 512) (drop (b * 512) card)
 
-      chain-is : chain table (size s) (firstBlock s) ≡ some (fileOf table s)
-      chain-is = file-chain s used table (rw es (rows .chains i (named-below directory name i q)))
+module _ (card : List ℕ) (rows : NoRowRefuses card) (i : ℕ) (u : UsedEntry card i) (s : List ℕ) (es : s ≡ entryAt (directoryOf card) i) where
+  used : isUsed s ≡ true
+  used = rw es (u .is-used)
 
-      -- b is the block that the chain's steps lead to, and the buffer holds what was copied over it
-      pub in-file : (r : Verdict) → r ≡ refusedAt 0 Whole → index < size s → (b : ℕ) → IsAfter table (firstBlock s) index b → b < 200
-          → (left : List ℕ) → left ≡ take (length (part card b)) (part card b) ++ drop (length (part card b)) buffer → ReadAs r left
-      unfolding readRows fileBlock blockAt cardLength
-      in-file r e h b after low left w =
-          let f : length (take 512 (drop (b * 512) card)) ≡ 512 = simp (length-take, length-drop) (omega (arith, rows .long)) in
-          let p : part card b ≡ take 512 (drop (b * 512) card) = ap (λ (k : ℕ). take k (drop (b * 512) card)) (add-sub-cancel-left (b * 512) 512) in
-          let d : b ≡ getD (fileOf table s) index 0 = after (size s) (fileOf table s) chain-is h in
-          record {
-            verdict-is = e ∙ rw (n, l, q, ← es, lt-leb (size s) index h);
-            buffer-is = w ∙ rw (e, q, p, ← es, ← d) (copied-over (take 512 (drop (b * 512) card)) buffer (f ∙ sym l));
-          }
+  pub first-below : firstBlock s < 200
+  first-below = right-entry s used (rw es (rows .entries i (u .in-directory))) .0
+
+  chain-is : chain (tableOf card) (size s) (firstBlock s) ≡ some (fileOf (tableOf card) s)
+  chain-is = file-chain s used (tableOf card) (rw es (rows .chains i (u .in-directory)))
+
+  module _ (index : ℕ) (buffer : List ℕ) (r : Verdict) where
+    pub past-end : r ≡ refusedAt 32 Whole → size s ≤ index
+        → (r ≡ indexRow (directoryOf card) index (some i)) × (buffer ≡ leftBy r card index (some i) buffer)
+    past-end e h = (e ∙ rw (← es, le-leb (size s) index h), rw e)
+
+    -- b is the block that the steps lead to, and the buffer holds what was copied over it
+    pub in-file : r ≡ refusedAt 0 Whole → length buffer ≡ 512 → index < size s → (b : ℕ) → b ≡ blockAfter (tableOf card) (firstBlock s) index → b < 200
+        → (left : List ℕ) → left ≡ take (length (part card b)) (part card b) ++ drop (length (part card b)) buffer
+        → (r ≡ indexRow (directoryOf card) index (some i)) × (left ≡ leftBy r card index (some i) buffer)
+    unfolding fileBlock blockAt cardLength
+    in-file e l h b after low left w =
+        let f : length (take 512 (drop (b * 512) card)) ≡ 512 = simp (length-take, length-drop) (omega (arith, rows .long)) in
+        let p : part card b ≡ take 512 (drop (b * 512) card) = ap (λ (k : ℕ). take k (drop (b * 512) card)) (add-sub-cancel-left (b * 512) 512) in
+        let d : b ≡ getD (fileOf (tableOf card) s) index 0 = after ∙ block-of-chain (tableOf card) (size s) (firstBlock s) (fileOf (tableOf card) s) chain-is index h in
+        (e ∙ rw (← es, lt-leb (size s) index h), w ∙ rw (e, p, ← es, ← d) (copied-over (take 512 (drop (b * 512) card)) buffer (f ∙ sym l)))

@@ -1,6 +1,6 @@
-pub mod LinkLaws
-pub mod SetLaws
-pub mod WalkLaws
-pub mod MarkLaws
 pub mod FirstLaws
-pub mod FieldLaws
+pub mod LinkLaws
+pub mod MarkLaws
+pub mod SetLaws
+pub mod StepLaws
+pub mod WalkLaws

@@ -14,10 +14,11 @@ use Rattle.words.proofs.JoinLaws.{any-append, all-has}
 use Rattle.words.proofs.Distinct.{count, one, count-next}
 use Rattle.words.proofs.LoopLaws.{numbers-next, numbers-end}
 use Rattle.card_model.specs.Table.{linkAt, freeOrDamaged}
-use Rattle.card_model.specs.Entries.{isUsed, entryAt}
+use Rattle.card_model.specs.Entries.{firstBlock, size, isUsed, entryAt}
 use Rattle.card_model.specs.Files.{chain, chainOf, badChain, fileOf, filesBefore, sharesBlock, isOrphan, orphans}
 use Rattle.card_model.proofs.EntryLaws.{file-chain, no-file, files-snoc}
 use Rattle.card_model.proofs.ChainLaws.{chain-head, chain-used}
+use Rattle.card_chains.specs.declared.walking.Finding.{Finding}
 use Rattle.card_chains.specs.Marks.{noMarks, isMarked, Lengths, Marking, MarkedFiles, outcome, answer, Walked, isBroken, isShared}
 use Rattle.card_chains.proofs.SetLaws.{any-same}
 use Rattle.card_chains.specs.Counts.{isInUse, countTo}
@@ -45,6 +46,12 @@ answer-broken (some bs) marks = go (anyOf (isMarked marks) bs)
 outcome-shared : (t : Bool) → isShared (outcome t) ≡ t
 outcome-shared true = refl
 outcome-shared false = refl
+
+-- the walk from an entry's fields, over what was read of the table, is along the entry's chain
+pub entry-walked : {table t entry s : List ℕ} {b n : ℕ} → t ≡ table → s ≡ entry → b ≡ firstBlock s → n ≡ size s
+    → {found : Finding} {marks marks′ : List ℕ} → Walked t (chain t n b) marks found marks′ → Walked table (chainOf table entry) marks found marks′
+unfolding chainOf
+entry-walked p q r v w = rw (← p, ← q, ← r, ← v) w
 
 -- ---- the files' marks
 
@@ -81,7 +88,7 @@ module _ (table : List ℕ) (directory : List (List ℕ)) where
   unused-bad k u = rw u
 
   -- the walk along the file of entry i
-  module _ (i : ℕ) (u : isUsed (entryAt directory i) ≡ true) {found : ℕ} {marks marks′ : List ℕ}
+  module _ (i : ℕ) (u : isUsed (entryAt directory i) ≡ true) {found : Finding} {marks marks′ : List ℕ}
       (w : Walked table (chainOf table (entryAt directory i)) marks found marks′) where
     pub walk-broken : isBroken found ≡ badChain table (entryAt directory i)
     walk-broken = ap isBroken (w .answers) ∙ answer-broken (chainOf table (entryAt directory i)) marks ∙ sym (chain-bad table (entryAt directory i) u)

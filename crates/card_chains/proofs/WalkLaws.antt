@@ -1,4 +1,4 @@
--- One step along a chain: what it makes of a walk's answer and marks, and of the block some steps on. Assumes nothing.
+-- One step along a chain: what it makes of a walk's answer and marks. Assumes nothing.
 use Prim.Native.Nat.{ℕ, zero, suc, _-_, _≤_, _<_}
 use mathlib.Core.Path.{_≡_, refl, sym, ap, subst, _∙_}
 use mathlib.Core.Bool.{Bool, true, false, cond, _||_, or-false, false≢true}
@@ -15,8 +15,10 @@ use Rattle.card_model.specs.declared.Link.the-variants.{Free, Damaged, Last, Ne
 use Rattle.card_model.specs.Table.{linkAt}
 use Rattle.card_model.specs.Files.{chainStep, chain}
 use Rattle.card_model.proofs.TableLaws.{next-below}
-use Rattle.card_model.proofs.ChainLaws.{Links, ends, goes, links-same, chain-links, chain-head, chain-distinct}
-use Rattle.card_chains.specs.Marks.{isMarked, Lengths, outcome, broken, Walkable, Walked, IsAfter}
+use Rattle.card_model.proofs.ChainLaws.{links-same, chain-links, chain-head, chain-distinct}
+use Rattle.card_chains.specs.declared.walking.Finding.{Finding}
+use Rattle.card_chains.specs.declared.walking.Finding.the-variants.{Broken}
+use Rattle.card_chains.specs.Marks.{isMarked, Lengths, outcome, Walkable, Walked}
 use Rattle.card_chains.proofs.SetLaws.{marked-set, set-each, any-same}
 
 pub step-below : (table : List ℕ) (b n : ℕ) → linkAt table b ≡ Next n → n < 200
@@ -46,7 +48,7 @@ module _ (table : List ℕ) where
       go none e p = absurd (false≢true p)
       go (some bs) e p = links-same table (chain-links table m b bs e) (chain-links table n b cs f)
 
-  pub walked-broken : {o : Option (List ℕ)} (marks marks′ : List ℕ) → o ≡ none → Walked table o marks broken marks′
+  pub walked-broken : {o : Option (List ℕ)} (marks marks′ : List ℕ) → o ≡ none → Walked table o marks Broken marks′
   walked-broken marks marks′ e = record {
     answers = rw e;
     are-lengths = λ s. absurd (false≢true (sym (ap isSome e) ∙ s));
@@ -58,7 +60,7 @@ module _ (table : List ℕ) where
 
   -- at block b, with so many blocks left
   module _ (marks : List ℕ) (b left : ℕ) (k : Walkable table marks left b) where
-    pub walked-met : {found mark : ℕ} → mark ≡ getD marks b 0 → (mark ≡ 0 → ⊥) → found ≡ cond (eqb mark left) (outcome true) broken
+    pub walked-met : {found : Finding} {mark : ℕ} → mark ≡ getD marks b 0 → (mark ≡ 0 → ⊥) → found ≡ cond (eqb mark left) (outcome true) Broken
         → Walked table (chain table left b) marks found marks
     unfolding isMarked
     walked-met {found} {mark} m h q = go (chain table left b) refl (eqb mark left) refl
@@ -72,7 +74,7 @@ module _ (table : List ℕ) where
             let s : isSome (chain table (getD marks b 0) b) ≡ true = k .up-to-left b is-marked (omega arith) in
             absurd (false≢true (sym (ap isSome e) ∙ (rw same at s)))
         go none e false d =
-            let f : found ≡ broken = q ∙ rw d in
+            let f : found ≡ Broken = q ∙ rw d in
             rw f (walked-broken marks marks refl)
         go (some bs) e false d =
             absurd (eqb-false mark left d (m ∙ one-length (getD marks b 0) left b bs (k .all-if-good (ap isSome e) .each b is-marked) e))
@@ -98,8 +100,8 @@ module _ (table : List ℕ) where
       set-lengths : isSome (chain table left b) ≡ true → Lengths table (set marks b left)
       set-lengths s = record { long = set-many; each = set-each marks b left long (λ x m. isSome (chain table m x) ≡ true) s (k .all-if-good s .each) }
 
-      pub walked-last : {found : ℕ} → chain table left b ≡ cond (eqb (left - 1) 0) (some (b ∷ [])) none
-          → found ≡ cond (eqb left 1) (outcome false) broken → Walked table (chain table left b) marks found (set marks b left)
+      pub walked-last : {found : Finding} → chain table left b ≡ cond (eqb (left - 1) 0) (some (b ∷ [])) none
+          → found ≡ cond (eqb left 1) (outcome false) Broken → Walked table (chain table left b) marks found (set marks b left)
       walked-last {found} e q = go (eqb left 1) refl
         where
           go : (t : Bool) → eqb left 1 ≡ t → Walked table (chain table left b) marks found (set marks b left)
@@ -111,7 +113,7 @@ module _ (table : List ℕ) where
               }
           go false d =
               let f = ne-eqb (left - 1) 0 (λ z. omega (arith, some-left, eqb-false left 1 d)) in
-              let g : found ≡ broken = q ∙ rw d in
+              let g : found ≡ Broken = q ∙ rw d in
               rw g (walked-broken marks (set marks b left) (e ∙ rw f))
 
       module _ (n : ℕ) (told : linkAt table b ≡ Next n) where
@@ -136,13 +138,13 @@ module _ (table : List ℕ) where
         pub next-asked : left ≤ 200 → ((n < 200) × (left - 1 ≤ 200)) × Walkable table (set marks b left) (left - 1) n
         next-asked h = ((step-below table b n told, omega (arith, h)), walkable-next)
 
-        pub walked-next : {found : ℕ} {marks′ : List ℕ} → Walked table (chain table (left - 1) n) (set marks b left) found marks′
+        pub walked-next : {found : Finding} {marks′ : List ℕ} → Walked table (chain table (left - 1) n) (set marks b left) found marks′
             → Walked table (chain table left b) marks found marks′
         walked-next {found} {marks′} w = go (chain table (left - 1) n) refl
           where
             go : (o : Option (List ℕ)) → chain table (left - 1) n ≡ o → Walked table (chain table left b) marks found marks′
             go none f =
-                let g : found ≡ broken = w .answers ∙ rw f in
+                let g : found ≡ Broken = w .answers ∙ rw f in
                 rw g (walked-broken marks marks′ (e ∙ rw f))
             go (some rest) f =
                 let whole : chain table left b ≡ some (b ∷ rest) = e ∙ rw f in
@@ -168,45 +170,3 @@ module _ (table : List ℕ) where
                 swap true true u = refl
                 swap true false u = refl
                 swap false t u = refl
-
--- ---- the block some steps on
-
-links-chain : (table : List ℕ) {left b : ℕ} {bs : List ℕ} → Links table left b bs → chain table left b ≡ some bs
-unfolding chain chainStep
-links-chain table (ends q) = rw q
-links-chain table (goes q l) = rw (q, links-chain table l)
-
-at-later : (b : ℕ) (bs : List ℕ) (i : ℕ) → (i ≡ 0 → ⊥) → getD (b ∷ bs) i 0 ≡ getD bs (i - 1) 0
-at-later b bs zero h = absurd (h refl)
-at-later b bs (suc i) h =
-    let e : suc i - 1 ≡ i = omega arith in
-    rw e
-
--- no block follows
-abbrev pub Stops : Link → Type 0
-Stops (Next n) = ⊥
-Stops Last = Unit
-Stops Free = Unit
-Stops Damaged = Unit
-Stops Bad = Unit
-
-module _ (table : List ℕ) (b left : ℕ) where
-  pub after-none : left ≡ 0 → IsAfter table b left b
-  after-none z size blocks e h = rw (z, chain-head table size b blocks e)
-
-  module _ (h : left ≡ 0 → ⊥) {l : Link} (q : l ≡ linkAt table b) where
-    pub after-next : (n r : ℕ) → l ≡ Next n → IsAfter table n (left - 1) r → IsAfter table b left r
-    after-next n r told f size blocks e k = go (chain-links table size b blocks e) k
-      where
-        go : {size : ℕ} {blocks : List ℕ} → Links table size b blocks → left < size → r ≡ getD blocks left 0
-        go (ends p) k = let z : _≡_ {A = ℕ} 0 1 = cc in absurd (omega arith)
-        go (goes {left = rest} {n = m} {bs} p ls) k =
-            let d : m ≡ n = cc in
-            f rest bs (ap (chain table rest) (sym d) ∙ links-chain table ls) (omega arith) ∙ sym (at-later b bs left h)
-
-    pub after-stop : (r : ℕ) {l′ : Link} → l ≡ l′ → Stops l′ → IsAfter table b left r
-    after-stop r told s size blocks e k = absurd (go (chain-links table size b blocks e) k)
-      where
-        go : {size : ℕ} {blocks : List ℕ} → Links table size b blocks → left < size → ⊥
-        go (ends p) k = h (omega arith)
-        go (goes p ls) k = subst Stops (sym told ∙ q ∙ p) s

@@ -1,6 +1,6 @@
 -- Marks of user blocks, and what a walk along a chain finds in them.
 -- Assumes nothing.
-use Prim.Native.Nat.{ℕ, _≤_, _<_}
+use Prim.Native.Nat.{ℕ, _≤_}
 use mathlib.Core.Path.{_≡_}
 use mathlib.Core.Bool.{Bool, true, false, not, cond, _||_}
 use mathlib.Core.List.{List}
@@ -9,6 +9,8 @@ use lib.Dec.{eqb}
 use lib.ListN.{length, getD, replicate}
 use Rattle.words.specs.Lists.{anyOf, has, isSome}
 use Rattle.card_model.specs.Files.{chain}
+use Rattle.card_chains.specs.declared.walking.Finding.{Finding}
+use Rattle.card_chains.specs.declared.walking.Finding.the-variants.{Apart, Shared, Broken}
 
 -- One number for each user block: 0 where it isn't marked, and else how many blocks of its chain are left there, itself included.
 unfoldable pub noMarks : List ℕ
@@ -33,18 +35,19 @@ pub record MarkedFiles (table blocks marks : List ℕ) : Type 0 where
 
 -- ---- walks
 
--- What a walk finds is a number: that no block was marked before, that one was, or that the chain is bad.
-abbrev pub outcome : Bool → ℕ
-outcome shared = cond shared 1 0
+-- What a walk finds in a chain that is there: that one of its blocks was marked before, or none.
+abbrev pub outcome : Bool → Finding
+outcome shared = cond shared Shared Apart
 
-abbrev pub broken : ℕ
-broken = 2
+abbrev pub isBroken : Finding → Bool
+isBroken Apart = false
+isBroken Shared = false
+isBroken Broken = true
 
-abbrev pub isBroken : ℕ → Bool
-isBroken found = eqb found broken
-
-abbrev pub isShared : ℕ → Bool
-isShared found = eqb found (outcome true)
+abbrev pub isShared : Finding → Bool
+isShared Apart = false
+isShared Shared = true
+isShared Broken = false
 
 -- What the marks are where a walk has come to block b with so many blocks left. Those above `left` may be of this walk: they are
 -- lengths of chains if the rest of the walk is one.
@@ -54,17 +57,13 @@ pub record Walkable (table marks : List ℕ) (left b : ℕ) : Type 0 where
   pub all-if-good : isSome (chain table left b) ≡ true → Lengths table marks
 
 -- What a walk answers for a chain, or for none.
-abbrev pub answer : Option (List ℕ) → List ℕ → ℕ
-answer none marks = broken
+abbrev pub answer : Option (List ℕ) → List ℕ → Finding
+answer none marks = Broken
 answer (some blocks) marks = outcome (anyOf (isMarked marks) blocks)
 
 -- A walk's answer, and the marks that it leaves where the chain is there: where no block of it was marked before, those of its
 -- blocks too.
-pub record Walked (table : List ℕ) (blocks : Option (List ℕ)) (marks : List ℕ) (found : ℕ) (marks′ : List ℕ) : Type 0 where
+pub record Walked (table : List ℕ) (blocks : Option (List ℕ)) (marks : List ℕ) (found : Finding) (marks′ : List ℕ) : Type 0 where
   pub answers : found ≡ answer blocks marks
   pub are-lengths : isSome blocks ≡ true → Lengths table marks′
   pub marked : (bs : List ℕ) → blocks ≡ some bs → anyOf (isMarked marks) bs ≡ false → (b : ℕ) → isMarked marks′ b ≡ (has b bs || isMarked marks b)
-
--- r is the block that so many steps from b lead to: on a chain that is longer than that, the chain's block at this index.
-abbrev pub IsAfter : List ℕ → ℕ → ℕ → ℕ → Type 0
-IsAfter table b steps r = (size : ℕ) (blocks : List ℕ) → chain table size b ≡ some blocks → steps < size → r ≡ getD blocks steps 0

@@ -3,14 +3,13 @@
 mod links;
 pub mod walking;
 
-use crate::walking::APART;
-use crate::walking::BROKEN;
-use crate::walking::SHARED;
+use crate::walking::is_broken;
+use crate::walking::is_shared;
 use crate::walking::walk;
-use card_directory::fields::first_in;
-use card_directory::fields::size_in;
-use card_directory::listing::fields_at;
-use card_directory::listing::listed_at;
+use card_directory::entry::entry_at;
+use card_directory::entry::first_block;
+use card_directory::entry::size;
+use card_directory::used::listed_at;
 use card_table::classify;
 use card_table::fat_entry;
 use card_table::free_or_damaged;
@@ -24,36 +23,16 @@ ghost use mathlib.Core.Path.{_≡_};
 ghost use mathlib.Core.Bool.{cond, false, true};
 ghost use Prim.Native.Nat.{ℕ, _≤_, _<_};
 ghost use lib.Dec.{ltb};
-ghost use lib.ListN.{length, getD};
+ghost use lib.ListN.{length};
 ghost use Rattle.verdicts.specs.Rows.{accepted};
 ghost use Rattle.card_model.specs.Layout.{tableOf, directoryOf};
 ghost use Rattle.card_model.specs.Entries.{wrongEntry};
-ghost use Rattle.card_model.specs.Files.{chain, filesBefore, orphans};
+ghost use Rattle.card_model.specs.Files.{filesBefore, orphans};
 ghost use Rattle.card_model.specs.Sound.{entryOn};
-ghost use Rattle.card_directory.specs.Fields.{firstIn, sizeIn};
-ghost use Rattle.card_directory.specs.Listed.{Listed, Gathered};
-ghost use Rattle.card_chains.specs.Marks.{noMarks, isMarked, Lengths, MarkedFiles, Walked};
-ghost use Rattle.card_chains.specs.Rows.{Passable, chainRows};
+ghost use Rattle.card_directory.specs.Listed.{Listed};
+ghost use Rattle.card_chains.specs.Marks.{noMarks, isMarked, MarkedFiles};
+ghost use Rattle.card_chains.specs.Rows.{chainRows};
 ghost use Rattle.card_chains.specs.Counts.{isInUse, countTo};
-
-// The walk along the file of number j of the list.
-fn walk_file(
-    card: &[u8],
-    table: &[u16; 256],
-    marks: &mut [u8; 200],
-    heads: &[u32; 208],
-    tails: &[u32; 208],
-    j: usize,
-) -> u8
-    requires { ⌜ (length (now card) ≡ 131072) × (now table ≡ tableOf (now card)) × (j < 208) ⌝ }
-    requires { ⌜ Passable (getD (now heads) j 0) (getD (now tails) j 0) ⌝ }
-    requires { ⌜ Lengths (tableOf (now card)) (now marks) ⌝ }
-    ensures { λ r. ⌜ Walked (tableOf (now (card .entry))) (chain (tableOf (now (card .entry))) (sizeIn (getD (now (tails .entry)) j 0)) (firstIn (getD (now (heads .entry)) j 0))) (now (marks .entry)) r (now (marks .exit)) ⌝ }
-{
-    let first = first_in(fields_at(heads, j));
-    let size = size_in(fields_at(tails, j));
-    walk(table, marks, first, size)
-}
 
 // The first entry that shares a block: the one remembered, or else this one. 208 is none.
 fn remember(first: usize, i: usize) -> usize
@@ -67,34 +46,25 @@ fn remember(first: usize, i: usize) -> usize
 
 // Refusals 27 and 28, over the list of the used entries. A bad chain anywhere comes before a shared block, so the first entry that
 // shares one is remembered and the pass goes on.
-pub fn walk_files(
-    card: &[u8],
-    used: &[u8; 208],
-    heads: &[u32; 208],
-    tails: &[u32; 208],
-    count: usize,
-    marks: &mut [u8; 200],
-) -> Verdict
+pub fn walk_files(card: &[u8], used: &[u8; 208], count: usize, marks: &mut [u8; 200]) -> Verdict
     requires { ⌜ (length (now card) ≡ 131072) × (now marks ≡ noMarks) ⌝ }
     requires { ⌜ Listed (directoryOf (now card)) 208 (now used) count ⌝ }
     requires { ⌜ ((i : ℕ) → i < 208 → wrongEntry (entryOn (now card) i) ≡ false) ⌝ }
-    requires { ⌜ Gathered (directoryOf (now card)) (now used) (now heads) (now tails) count ⌝ }
     ensures { λ r. ⌜ r ≡ chainRows (tableOf (now (card .entry))) (directoryOf (now (card .entry))) ⌝ }
     ensures { λ r. ⌜ (accepted r ≡ true → MarkedFiles (tableOf (now (card .entry))) (filesBefore (tableOf (now (card .entry))) (directoryOf (now (card .entry))) 208) (now (marks .exit))) ⌝ }
 {
-    if count == 0 {
-        return done();
-    }
     let table = read_table(card);
     let mut first: usize = 208;
     let mut j = 0;
     while j < count {
-        let found = walk_file(card, &table, marks, heads, tails, j);
-        if found == BROKEN {
-            return refused_at(27, Place::Entry(listed_at(used, j)));
+        let i = listed_at(used, j);
+        let entry = entry_at(card, i);
+        let found = walk(&table, marks, first_block(entry), size(entry));
+        if is_broken(found) {
+            return refused_at(27, Place::Entry(i));
         }
-        if found == SHARED {
-            first = remember(first, listed_at(used, j));
+        if is_shared(found) {
+            first = remember(first, i);
         }
         j += 1;
     }

@@ -9,59 +9,79 @@ ghost use Prim.Native.Nat.{_≤_, _<_};
 ghost use lib.ListN.{length};
 ghost use Rattle.card_model.specs.Layout.{tableOf};
 ghost use Rattle.card_model.specs.Files.{chain};
-ghost use Rattle.card_chains.specs.Marks.{broken, Walkable, Walked, IsAfter};
+ghost use Rattle.card_chains.specs.declared.walking.Finding.the-variants.{Broken};
+ghost use Rattle.card_chains.specs.Marks.{isBroken, isShared, Walkable, Walked};
+ghost use Rattle.card_chains.specs.Steps.{blockAfter};
 
-// What the walk along a chain found: no marked block, one that was marked before, or a bad chain. These are plain numbers because
-// an enum would come back through memory, and then the compiler doesn't make a loop of the recursion.
-pub(crate) const APART: u8 = 0;
+// What the walk along a chain found: no block that was marked before, one that was, or a bad chain.
+pub(crate) enum Finding {
+    Apart,
+    Shared,
+    Broken,
+}
 
-pub(crate) const SHARED: u8 = 1;
+pub(crate) fn is_broken(found: Finding) -> bool
+    ensures { λ r. ⌜ r ≡ isBroken found ⌝ }
+{
+    match found {
+        Finding::Apart => false,
+        Finding::Shared => false,
+        Finding::Broken => true,
+    }
+}
 
-pub(crate) const BROKEN: u8 = 2;
+pub(crate) fn is_shared(found: Finding) -> bool
+    ensures { λ r. ⌜ r ≡ isShared found ⌝ }
+{
+    match found {
+        Finding::Apart => false,
+        Finding::Shared => true,
+        Finding::Broken => false,
+    }
+}
 
 // What a walk answers where it ends.
-fn ended(good: bool, found: u8) -> u8
-    ensures { λ r. ⌜ r ≡ cond good found broken ⌝ }
+fn ended(good: bool, found: Finding) -> Finding
+    ensures { λ r. ⌜ r ≡ cond good found Broken ⌝ }
 {
     if good {
         return found;
     }
-    BROKEN
+    Finding::Broken
 }
 
 // From `block` on, with `left` blocks left: the first entries each name the next block, and the last one is FFFA. Each block is
 // marked with what is left where it is tested, and a walk ends where it meets a mark, so no block is tested twice. If an earlier
 // walk made the mark, the chain from there is good, and no chain has two lengths. If this one did, fewer are left now, and it never
 // ends.
-pub(crate) fn walk(table: &[u16; 256], marks: &mut [u8; 200], block: usize, left: usize) -> u8
+pub(crate) fn walk(table: &[u16; 256], marks: &mut [u8; 200], block: usize, left: usize) -> Finding
     requires { ⌜ (block < 200) × (left ≤ 200) ⌝ }
     requires { ⌜ Walkable (now table) (now marks) left block ⌝ }
     ensures { λ r. ⌜ Walked (now (table .entry)) (chain (now (table .entry)) left block) (now (marks .entry)) r (now (marks .exit)) ⌝ }
 {
     if left == 0 {
-        return BROKEN; // no block is left
+        return Finding::Broken; // no block is left
     }
     let mark = marks[block];
     let own = left as u8;
     if mark != 0 {
-        return ended(mark == own, SHARED);
+        return ended(mark == own, Finding::Shared);
     }
     marks[block] = own;
     let e = entry_in(table, block);
     match classify(e) {
-        Link::Last => ended(left == 1, APART),
+        Link::Last => ended(left == 1, Finding::Apart),
         Link::Next(n) => walk(table, marks, n, left - 1),
-        Link::Free => BROKEN,
-        Link::Damaged => BROKEN,
-        Link::Bad => BROKEN,
+        Link::Free => Finding::Broken,
+        Link::Damaged => Finding::Broken,
+        Link::Bad => Finding::Broken,
     }
 }
 
 // The block that `left` steps over this table lead to.
 fn follow(table: &[u16; 256], block: usize, left: usize) -> usize
     requires { ⌜ block < 200 ⌝ }
-    ensures { λ r. ⌜ IsAfter (now (table .entry)) block left r ⌝ }
-    ensures { λ r. ⌜ r < 200 ⌝ }
+    ensures { λ r. ⌜ (r ≡ blockAfter (now (table .entry)) block left) × (r < 200) ⌝ }
 {
     if left == 0 {
         return block;
@@ -79,8 +99,7 @@ fn follow(table: &[u16; 256], block: usize, left: usize) -> usize
 // The same over the card's table.
 pub fn block_after(card: &[u8], block: usize, left: usize) -> usize
     requires { ⌜ (length (now card) ≡ 131072) × (block < 200) ⌝ }
-    ensures { λ r. ⌜ IsAfter (tableOf (now (card .entry))) block left r ⌝ }
-    ensures { λ r. ⌜ r < 200 ⌝ }
+    ensures { λ r. ⌜ (r ≡ blockAfter (tableOf (now (card .entry))) block left) × (r < 200) ⌝ }
 {
     let table = read_table(card);
     follow(&table, block, left)

@@ -1,20 +1,17 @@
 -- Parts of a card, what a search answered, and rules 26 and 29 of an entry. Assumes nothing.
-use Prim.Native.Nat.{ℕ, _+_, _-_, _*_, _/_, _%_, _<_}
+use Prim.Native.Nat.{ℕ, _+_, _-_, _<_}
 use mathlib.Core.Path.{_≡_, refl, sym, ap, _∙_}
-use mathlib.Core.Bool.{true, false, not}
+use mathlib.Core.Bool.{true, false}
 use mathlib.Core.List.{List}
 use mathlib.Core.Option.{Option, none, some}
 use native.Mathlib.Omega.{arith}
 use native.Mathlib.Nat.{add-sub-cancel-left}
-use lib.Bits.{bitXor}
-use lib.Dec.{eqb}
 use lib.ListN.{length, take, drop}
 use mir.Syntax.{Width}
 use mir.Val.{Fits}
-use borrow.Author.Tests.{eqb-true, not-false}
 use Rattle.words.specs.Lists.{isSome}
 use Rattle.words.specs.Search.{lowest}
-use Rattle.words.proofs.JoinLaws.{none-range}
+use Rattle.words.specs.Words.{sameBytes}
 use Rattle.words.proofs.SearchLaws.{any-lowest}
 use Rattle.card_model.specs.Layout.{entryPlace, directoryOf}
 use Rattle.card_model.specs.Entries.{nameOf, isUsed, wrongEntry, entryAt, isNamed, nameTaken}
@@ -29,13 +26,18 @@ entry-part card i {at = at} fits long b e =
     let part = ap (λ (n : ℕ). take n (drop at card)) (add-sub-cancel-left at 32) ∙ ap (λ (p : ℕ). take 32 (drop p card)) (sym e) ∙ sym (entry-is card i b) in
     (part, ap length part ∙ entry-length card i long b)
 
--- an entry's number with its high four bits flipped, tested for each of them
-pub flipped : (i : ℕ) → i < 208 → bitXor i 240 ≡ (15 - i / 16) * 16 + i % 16
-flipped i h = eqb-true _ _ (not-false _ (none-range (λ j. not (eqb (bitXor j 240) ((15 - j / 16) * 16 + j % 16))) 0 208 refl i (omega arith) h))
-
 pub unused-right : (directory : List (List ℕ)) (i : ℕ) → isUsed (entryAt directory i) ≡ false → wrongEntry (entryAt directory i) ≡ false
 unfolding wrongEntry
 unused-right directory i u = rw u
+
+-- a listed entry has a name exactly if its bytes there are the name's
+pub listed-named : (name : List ℕ) {s entry : List ℕ} → s ≡ entry → isUsed entry ≡ true → sameBytes (nameOf s) name ≡ isNamed name entry
+unfolding isNamed
+listed-named name e u = rw (e, u)
+
+pub unused-unnamed : (directory : List (List ℕ)) (name : List ℕ) (i : ℕ) → isUsed (entryAt directory i) ≡ false → isNamed name (entryAt directory i) ≡ false
+unfolding isNamed
+unused-unnamed directory name i u = rw u
 
 -- ---- what a search answered
 

@@ -1,4 +1,2 @@
 pub mod DirectoryLaws
-pub mod FieldLaws
 pub mod ListedLaws
-pub mod RunLaws

@@ -7,18 +7,16 @@ use mathlib.Core.Option.{Option, none, some}
 use native.Mathlib.Omega.{arith}
 use native.Mathlib.Decide.{ℕ-discrete}
 use native.Mathlib.Numerals.{add-one}
-use lib.Dec.{ltb, leb}
+use lib.Dec.{ltb}
 use lib.ListN.{length, getD, set, length-set}
 use lib.Seq.{getD-set-same, getD-set-other}
-use borrow.Author.Tests.{ltb-true, ltb-false, leb-true, leb-false}
+use borrow.Author.Tests.{ltb-true, ltb-false}
 use Rattle.words.specs.Search.{lowest}
-use Rattle.words.proofs.SearchLaws.{lowest-nothing}
+use Rattle.words.proofs.SearchLaws.{lowest-is, lowest-nothing}
 use Rattle.words.proofs.LoopLaws.{lowest-here, lowest-next, lowest-end}
-use Rattle.card_model.specs.Entries.{isUsed, wrongEntry, entryAt}
-use Rattle.card_directory.specs.Runs.{Passed}
-use Rattle.card_directory.specs.Fields.{IsHead, IsTail, wrongFields}
-use Rattle.card_directory.specs.Listed.{NextUsed, reached, Listed, Holds, Gathered}
-use Rattle.card_directory.proofs.FieldLaws.{fields-wrong}
+use Rattle.card_model.specs.Entries.{isUsed, entryAt}
+use Rattle.card_model.specs.Calls.{firstUsed}
+use Rattle.card_directory.specs.Listed.{NextUsed, reached, Listed}
 
 pub reached-next : (used : List ℕ) (j i : ℕ) → i ≡ getD used j 0 → i + 1 ≡ reached used (j + 1)
 reached-next used j i e = rw (add-one j, add-one i, e)
@@ -34,20 +32,6 @@ module _ (directory : List (List ℕ)) where
 
   later : {start i end n : ℕ} → i ≤ end → NextUsed directory start i n → NextUsed directory start end n
   later h u = record { from-start = u .from-start; before-end = omega (arith, u .before-end); is-used = u .is-used; skipped = u .skipped }
-
-  -- no entry from a to b is used
-  pub listed-over : {a b : ℕ} {used : List ℕ} {count : ℕ} → a ≤ b → Listed directory a used count
-      → ((k : ℕ) → a ≤ k → k < b → isUsed (entryAt directory k) ≡ false) → Listed directory b used count
-  listed-over {a} {b} {used} {count} h l u = record {
-    long = l .long;
-    fits = omega (arith, l .fits);
-    each = λ j q. later h (l .each j q);
-    rest = λ k q r. go k q r (leb a k) refl;
-  }
-    where
-      go : (k : ℕ) → reached used count ≤ k → k < b → (t : Bool) → leb a k ≡ t → isUsed (entryAt directory k) ≡ false
-      go k q r true e = u k (leb-true a k e) r
-      go k q r false e = l .rest k q (leb-false a k e)
 
   -- a number behind the list
   listed-behind : {end : ℕ} {used : List ℕ} {count : ℕ} (x : ℕ) → Listed directory end used count → Listed directory end (set used count x) count
@@ -104,30 +88,6 @@ module _ (directory : List (List ℕ)) where
         let e : count + 0 ≡ count = omega arith in
         rw e (listed-behind i (unused-next u))
 
-  -- ---- the fields
-
-  module _ (Of : List ℕ → ℕ → Type 0) where
-    holds-start : (used : List ℕ) {numbers : List ℕ} → length numbers ≡ 208 → Holds Of directory used numbers 0
-    holds-start used e = record { many = e; at = λ j h. absurd (omega arith) }
-
-    holds-next : (i : ℕ) {used numbers : List ℕ} {count x : ℕ} → length used ≡ 208 → count < 208 → Of (entryAt directory i) x
-        → Holds Of directory used numbers count → (n : ℕ) → n ≤ count + 1 → Holds Of directory (set used count i) (set numbers count x) n
-    holds-next i {used} {numbers} {count} {x} long b f g n m =
-        record { many = length-set numbers count x ∙ g .many; at = λ j c. go j c (ℕ-discrete j count) }
-      where
-        go : (j : ℕ) → j < n → Dec (j ≡ count) → Of (entryAt directory (getD (set used count i) j 0)) (getD (set numbers count x) j 0)
-        go j c (yes d) = rw (d, getD-set-same used count i 0 (omega (arith, long)), getD-set-same numbers count x 0 (omega (arith, g .many))) f
-        go j c (no d) = rw (getD-set-other used count j i 0 d, getD-set-other numbers count j x 0 d) (g .at j (omega (arith, d)))
-
-  pub gathered-start : (used : List ℕ) {heads tails : List ℕ} → length heads ≡ 208 → length tails ≡ 208 → Gathered directory used heads tails 0
-  gathered-start used p q = record { in-heads = holds-start IsHead used p; in-tails = holds-start IsTail used q }
-
-  pub gathered-next : (i : ℕ) {used heads tails : List ℕ} {count head tail : ℕ} → length used ≡ 208 → count < 208 → IsHead (entryAt directory i) head
-      → IsTail (entryAt directory i) tail → Gathered directory used heads tails count → (n : ℕ) → n ≤ count + 1
-      → Gathered directory (set used count i) (set heads count head) (set tails count tail) n
-  gathered-next i long b h t g n m =
-      record { in-heads = holds-next IsHead i long b h (g .in-heads) n m; in-tails = holds-next IsTail i long b t (g .in-tails) n m }
-
 -- a number of the list
 pub listed-below : {directory : List (List ℕ)} {used : List ℕ} {count : ℕ} → Listed directory 208 used count → (j i : ℕ) → i ≡ getD used j 0 → j < count → i < 208
 listed-below l j i e h = rw e (l .each j h .before-end)
@@ -164,25 +124,18 @@ module _ {directory : List (List ℕ)} {used : List ℕ} {count : ℕ} (l : List
           let x = before (omega (arith, d)) in
           omega (arith, x, l .each n (omega arith) .from-start)
 
-  pub listed-before : (i : ℕ) → i < 208 → isUsed (entryAt directory i) ≡ true → i < reached used count
-  listed-before i b u = go (ltb i (reached used count)) refl
-    where
-      go : (t : Bool) → ltb i (reached used count) ≡ t → i < reached used count
-      go true q = ltb-true _ _ q
-      go false q = absurd (true≢false (sym u ∙ l .rest i (ltb-false _ _ q) b))
+  -- where the first j numbers are before `start`, the next one is the first used entry from there if it is not, too
+  module _ (start j : ℕ) (before : reached used j ≤ start) where
+    pub first-listed : (i : ℕ) → i ≡ getD used j 0 → j < count → start ≤ i → firstUsed directory start ≡ some i
+    unfolding firstUsed
+    first-listed i e h s =
+        let u : NextUsed directory (reached used j) 208 i = rw e (l .each j h) in
+        lowest-is (λ k. isUsed (entryAt directory k)) start (208 - start) i
+        (record { low = s; high = omega (arith, u .before-end); passes = u .is-used; none-below = λ k a b. u .skipped k (omega arith) b })
 
-  -- no used entry is behind the list
-  pub none-left : (start : ℕ) → reached used count ≤ start → lowest (λ i. isUsed (entryAt directory i)) start (208 - start) ≡ none
-  none-left start h = lowest-nothing (λ i. isUsed (entryAt directory i)) start (208 - start) (λ k a b. l .rest k (omega arith) (omega arith))
-
-pub holds-at : {Of : List ℕ → ℕ → Type 0} {directory : List (List ℕ)} {used numbers : List ℕ} {count : ℕ} → Holds Of directory used numbers count
-    → (j i : ℕ) → i ≡ getD used j 0 → j < count → Of (entryAt directory i) (getD numbers j 0)
-holds-at g j i e h = rw e (g .at j h)
-
--- rule 26 of a listed entry, by its fields
-pub listed-wrong : {directory : List (List ℕ)} {used heads tails : List ℕ} {count : ℕ} → Listed directory 208 used count → Gathered directory used heads tails count
-    → (j : ℕ) → j < count → wrongEntry (entryAt directory (getD used j 0)) ≡ wrongFields (getD heads j 0) (getD tails j 0)
-listed-wrong l g j h = fields-wrong (g .in-heads .at j h) (g .in-tails .at j h) (l .each j h .is-used)
+    pub none-listed : j ≡ count → firstUsed directory start ≡ none
+    unfolding firstUsed
+    none-listed z = lowest-nothing (λ k. isUsed (entryAt directory k)) start (208 - start) (λ k a b. l .rest k (rw (← z) (omega arith)) (omega arith))
 
 -- ---- what no unused entry changes is the same where a walk has come to and at the next entry of the list, or at the end
 
@@ -225,11 +178,6 @@ first-same p k q = go (ltb k 208) refl
         let h = ltb-false k 208 b in
         lowest-end p (suc k) 208 (omega arith) ∙ sym (lowest-end p k 208 h)
 
--- a pass that goes on from entry i to r
-pub passed-on : (directory : List (List ℕ)) (p : ℕ → Bool) → ((i : ℕ) → isUsed (entryAt directory i) ≡ false → p i ≡ false)
-    → (i r : ℕ) → Passed directory i r → p i ≡ false → firstFrom p i ≡ firstFrom p r
-passed-on directory p unused i r s q = sym (first-same p i q) ∙ between directory (firstFrom p) (λ k u. first-same p k (unused k u)) (suc i) r (s .later) (s .unused)
-
 module _ (directory : List (List ℕ)) (p : ℕ → Bool) (unused : (i : ℕ) → isUsed (entryAt directory i) ≡ false → p i ≡ false)
     {used : List ℕ} {count : ℕ} (l : Listed directory 208 used count) where
   -- the walk along the list is at its number j, which is i
@@ -247,12 +195,3 @@ module _ (directory : List (List ℕ)) (p : ℕ → Bool) (unused : (i : ℕ) �
   pub found-none : (j : ℕ) → j ≡ count → firstFrom p (reached used j) ≡ none
   unfolding firstFrom
   found-none j z = stays-to-end directory (firstFrom p) (λ k u. first-same p k (unused k u)) l j z
-
-  pub found-nowhere : ((j : ℕ) → j < count → p (getD used j 0) ≡ false) → firstFrom p 0 ≡ none
-  found-nowhere q = go count (omega arith) ∙ found-none count refl
-    where
-      go : (j : ℕ) → j ≤ count → firstFrom p 0 ≡ firstFrom p (reached used j)
-      go zero h = refl
-      go (suc j) h =
-          go j (omega arith) ∙ found-later j (getD used j 0) refl (omega arith) (q j (omega arith))
-          ∙ ap (λ (k : ℕ). firstFrom p (reached used k)) (add-one j)

@@ -1,4 +1,2 @@
-pub mod Fields
 pub mod Found
 pub mod Listed
-pub mod Runs

@@ -6,7 +6,6 @@ use mathlib.Core.Bool.{true, false}
 use mathlib.Core.List.{List}
 use lib.ListN.{length, getD}
 use Rattle.card_model.specs.Entries.{isUsed, entryAt}
-use Rattle.card_directory.specs.Fields.{IsHead, IsTail}
 
 -- i is the first used entry from `start` on, and before `end`.
 pub record NextUsed (directory : List (List ℕ)) (start end i : ℕ) : Type 0 where
@@ -27,12 +26,3 @@ pub record Listed (directory : List (List ℕ)) (end : ℕ) (used : List ℕ) (c
   pub fits : count ≤ end
   pub each : (j : ℕ) → j < count → NextUsed directory (reached used j) end (getD used j 0)
   pub rest : (k : ℕ) → reached used count ≤ k → k < end → isUsed (entryAt directory k) ≡ false
-
--- The numbers hold fields of the listed entries, each at the place of its entry.
-pub record Holds (Of : List ℕ → ℕ → Type 0) (directory : List (List ℕ)) (used numbers : List ℕ) (count : ℕ) : Type 0 where
-  pub many : length numbers ≡ 208
-  pub at : (j : ℕ) → j < count → Of (entryAt directory (getD used j 0)) (getD numbers j 0)
-
-pub record Gathered (directory : List (List ℕ)) (used heads tails : List ℕ) (count : ℕ) : Type 0 where
-  pub in-heads : Holds IsHead directory used heads count
-  pub in-tails : Holds IsTail directory used tails count

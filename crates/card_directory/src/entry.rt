@@ -1,28 +1,19 @@
-// One directory entry, read from its own 32 bytes.
+// One directory entry, read from its own 32 bytes: its fields and the tests of row 26.
+use words::same;
 use words::word;
 ghost use mathlib.Core.Path.{_≡_};
-ghost use Prim.Native.Nat.{_+_, _*_, _<_};
+ghost use Prim.Native.Nat.{_<_};
 ghost use lib.ListN.{length};
+ghost use Rattle.words.specs.Words.{sameBytes};
 ghost use Rattle.card_model.specs.Layout.{directoryOf};
 ghost use Rattle.card_model.specs.Entries as model;
 
-// The bytes of entry k of the directory's block n: the blocks go down from 253, with 16 entries in each.
-pub(crate) fn entry_in(card: &[u8], n: usize, k: usize) -> &[u8]
-    requires { ⌜ (length (now card) ≡ 131072) × (n < 13) × (k < 16) ⌝ }
-    ensures { λ r. ⌜ (now r ≡ model.entryAt (directoryOf (now (card .entry))) (16 * n + k)) × (length (now r) ≡ 32) ⌝ }
-{
-    let at = (253 - n) * 512 + 32 * k;
-    let end = at + 32;
-    &card[at..end]
-}
-
-// The bytes of entry i. The blocks go down from 253: to flip the high four bits of the entry's number counts them from the other
-// end.
+// The bytes of entry i.
 pub fn entry_at(card: &[u8], i: usize) -> &[u8]
     requires { ⌜ (length (now card) ≡ 131072) × (i < 208) ⌝ }
     ensures { λ r. ⌜ (now r ≡ model.entryAt (directoryOf (now (card .entry))) i) × (length (now r) ≡ 32) ⌝ }
 {
-    let at = (i ^ 240) * 32 + 121856;
+    let at = (253 - i / 16) * 512 + 32 * (i % 16);
     let end = at + 32;
     &card[at..end]
 }
@@ -32,6 +23,13 @@ pub fn is_used(entry: &[u8]) -> bool
     ensures { λ r. ⌜ r ≡ model.isUsed (now (entry .entry)) ⌝ }
 {
     entry[0] != 0
+}
+
+fn is_data(entry: &[u8]) -> bool
+    requires { ⌜ length (now entry) ≡ 32 ⌝ }
+    ensures { λ r. ⌜ r ≡ model.isData (now (entry .entry)) ⌝ }
+{
+    entry[0] == 0x33
 }
 
 pub fn is_game(entry: &[u8]) -> bool
@@ -48,6 +46,13 @@ pub fn first_block(entry: &[u8]) -> usize
     word(entry, 0x02)
 }
 
+pub fn has_name(entry: &[u8], name: &[u8]) -> bool
+    requires { ⌜ length (now entry) ≡ 32 ⌝ }
+    ensures { λ r. ⌜ r ≡ sameBytes (model.nameOf (now (entry .entry))) (now (name .entry)) ⌝ }
+{
+    same(&entry[4..16], name)
+}
+
 pub fn size(entry: &[u8]) -> usize
     requires { ⌜ length (now entry) ≡ 32 ⌝ }
     ensures { λ r. ⌜ r ≡ model.size (now (entry .entry)) ⌝ }
@@ -60,4 +65,51 @@ pub fn header_offset(entry: &[u8]) -> usize
     ensures { λ r. ⌜ r ≡ model.headerOffset (now (entry .entry)) ⌝ }
 {
     word(entry, 0x1a)
+}
+
+fn wrong_kind(entry: &[u8]) -> bool
+    requires { ⌜ length (now entry) ≡ 32 ⌝ }
+    ensures { λ r. ⌜ r ≡ model.wrongKind (now (entry .entry)) ⌝ }
+{
+    !(is_data(entry) | is_game(entry))
+}
+
+fn wrong_flag(entry: &[u8]) -> bool
+    requires { ⌜ length (now entry) ≡ 32 ⌝ }
+    ensures { λ r. ⌜ r ≡ model.wrongFlag (now (entry .entry)) ⌝ }
+{
+    !((entry[1] == 0x00) | (entry[1] == 0xFF))
+}
+
+fn wrong_first(entry: &[u8]) -> bool
+    requires { ⌜ length (now entry) ≡ 32 ⌝ }
+    ensures { λ r. ⌜ r ≡ model.wrongFirst (now (entry .entry)) ⌝ }
+{
+    !(first_block(entry) < 200)
+}
+
+fn wrong_size(entry: &[u8]) -> bool
+    requires { ⌜ length (now entry) ≡ 32 ⌝ }
+    ensures { λ r. ⌜ r ≡ model.wrongSize (now (entry .entry)) ⌝ }
+{
+    let blocks = size(entry);
+    !((1 <= blocks) & (blocks <= 200))
+}
+
+fn wrong_offset(entry: &[u8]) -> bool
+    requires { ⌜ length (now entry) ≡ 32 ⌝ }
+    ensures { λ r. ⌜ r ≡ model.wrongOffset (now (entry .entry)) ⌝ }
+{
+    is_data(entry) & !(header_offset(entry) < size(entry))
+}
+
+// Refusal 26's test.
+pub(crate) fn wrong_entry(entry: &[u8]) -> bool
+    requires { ⌜ length (now entry) ≡ 32 ⌝ }
+    ensures { λ r. ⌜ r ≡ model.wrongEntry (now (entry .entry)) ⌝ }
+{
+    is_used(entry)
+        & (wrong_kind(entry)
+            | (wrong_flag(entry)
+                | (wrong_first(entry) | (wrong_size(entry) | wrong_offset(entry)))))
 }

@@ -1,6 +1,4 @@
-// The directory of a card: its entries one by one, the search by use, refusal 26 and the list of the used entries.
+// The directory of a card: its entries one by one, the list of the used ones with refusal 26, and the searches along it.
 pub mod entry;
-pub mod fields;
-pub mod listing;
-mod runs;
 pub mod search;
+pub mod used;

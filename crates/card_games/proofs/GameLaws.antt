@@ -77,12 +77,9 @@ no-game : (entry : List ℕ) → isUsed entry ≡ false → isGame entry ≡ fal
 unfolding isGame isUsed
 no-game entry u = ne-eqb (kind entry) 0xCC (λ d. true≢false (rw d at u))
 
-pub not-game : (table : List ℕ) (directory : List (List ℕ)) (i : ℕ) → isGame (entryAt directory i) ≡ false → breaksGameRule table directory i ≡ false
-unfolding breaksGameRule
-not-game table directory i g = rw g
-
 pub unused-game : (table : List ℕ) (directory : List (List ℕ)) (i : ℕ) → isUsed (entryAt directory i) ≡ false → breaksGameRule table directory i ≡ false
-unused-game table directory i u = not-game table directory i (no-game (entryAt directory i) u)
+unfolding breaksGameRule
+unused-game table directory i u = rw (no-game (entryAt directory i) u)
 
 -- the rule of the entry that stands in a part s of the card
 pub game-rule : (directory : List (List ℕ)) (i : ℕ) (s : List ℕ) → s ≡ entryAt directory i → (table : List ℕ) → breaksGameRule table directory i

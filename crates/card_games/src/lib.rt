@@ -3,9 +3,7 @@ use card_directory::entry::entry_at;
 use card_directory::entry::first_block;
 use card_directory::entry::is_game;
 use card_directory::entry::size;
-use card_directory::fields::is_game_in;
-use card_directory::listing::fields_at;
-use card_directory::listing::listed_at;
+use card_directory::used::listed_at;
 use card_table::fat_entry;
 use verdicts::Place;
 use verdicts::Verdict;
@@ -14,14 +12,13 @@ use verdicts::refused_at;
 ghost use mathlib.Core.Path.{_≡_};
 ghost use mathlib.Core.Bool.{true, false};
 ghost use Prim.Native.Nat.{_≤_, _<_};
-ghost use lib.ListN.{length, getD};
+ghost use lib.ListN.{length};
 ghost use Rattle.words.specs.Lists.{anyOf, isSome, numbersFrom};
 ghost use Rattle.card_model.specs.Layout.{tableOf, directoryOf};
 ghost use Rattle.card_model.specs.Entries as model;
 ghost use Rattle.card_model.specs.Files.{chain, orEmpty, rising, breaksGameRule, gameRow};
 ghost use Rattle.card_games.specs.Rules.{GoodChains};
-ghost use Rattle.card_directory.specs.Fields.{IsHead, isGameIn};
-ghost use Rattle.card_directory.specs.Listed.{Listed, Holds};
+ghost use Rattle.card_directory.specs.Listed.{Listed};
 
 // Whether an entry before i is a game.
 fn game_before(card: &[u8], i: usize) -> bool
@@ -76,31 +73,13 @@ fn breaks_game_rule(card: &[u8], i: usize) -> bool
     !rises(card, blocks)
 }
 
-// Whether a listed entry is a game. The loop has no way out, so that it is compiled to steps of several entries.
-fn any_game(heads: &[u32; 208], count: usize) -> bool
-    requires { ⌜ count ≤ 208 ⌝ }
-    ensures { λ r. ⌜ r ≡ anyOf (λ j. isGameIn (getD (now (heads .entry)) j 0)) (numbersFrom 0 count) ⌝ }
-{
-    let mut game = false;
-    let mut j = 0;
-    while j < count {
-        game = game | is_game_in(fields_at(heads, j));
-        j += 1;
-    }
-    game
-}
-
-// The refusal at the first entry that breaks the rule, which is looked for only where there is a game.
-pub fn game_row(card: &[u8], used: &[u8; 208], heads: &[u32; 208], count: usize) -> Verdict
+// The refusal at the first listed entry that breaks the rule.
+pub fn game_row(card: &[u8], used: &[u8; 208], count: usize) -> Verdict
     requires { ⌜ length (now card) ≡ 131072 ⌝ }
     requires { ⌜ GoodChains (tableOf (now card)) (directoryOf (now card)) ⌝ }
     requires { ⌜ Listed (directoryOf (now card)) 208 (now used) count ⌝ }
-    requires { ⌜ Holds IsHead (directoryOf (now card)) (now used) (now heads) count ⌝ }
     ensures { λ r. ⌜ r ≡ gameRow (tableOf (now (card .entry))) (directoryOf (now (card .entry))) ⌝ }
 {
-    if !any_game(heads, count) {
-        return done();
-    }
     let mut j = 0;
     while j < count {
         let i = listed_at(used, j);

@@ -1,9 +1,9 @@
--- The hash table of the listed names, and what a search in it tells. Assumes nothing.
+-- The slots of the listed names, and what a search back from one tells. Assumes nothing.
 use Prim.Native.Nat.{ℕ, suc, _+_, _-_, _≤_, _<_}
 use mathlib.Core.Path.{_≡_, refl, sym, ap, _∙_}
-use mathlib.Core.Bool.{Bool, true, false, false≢true}
+use mathlib.Core.Bool.{Bool, true, false}
 use mathlib.Core.List.{List}
-use mathlib.Core.Option.{none, some}
+use mathlib.Core.Option.{none}
 use native.Mathlib.Omega.{arith}
 use native.Mathlib.Decide.{ℕ-discrete}
 use lib.Dec.{ltb}
@@ -13,13 +13,12 @@ use borrow.Author.Tests.{ltb-true, ltb-false}
 use Rattle.words.specs.Words.{sameBytes}
 use Rattle.words.proofs.Bools.{and-true-left, and-true-right}
 use Rattle.words.proofs.JoinLaws.{any-range}
-use Rattle.words.proofs.SearchLaws.{lowest-is, lowest-nothing}
+use Rattle.words.proofs.SearchLaws.{lowest-nothing}
 use Rattle.words.proofs.WordLaws.{same-eq, eq-same}
 use Rattle.card_model.specs.Entries.{nameOf, isUsed, entryAt, isNamed, nameTaken}
-use Rattle.card_model.specs.Calls.{entryNamed}
 use Rattle.card_directory.specs.Listed.{reached, Listed}
 use Rattle.card_directory.proofs.DirectoryLaws.{unused-name, used-name}
-use Rattle.card_directory.proofs.ListedLaws.{listed-used, listed-index, listed-rises, listed-before}
+use Rattle.card_directory.proofs.ListedLaws.{listed-used, listed-index, listed-rises}
 use Rattle.card_names.specs.Slots.{slotOf, nameAt, slotAt, LastOf, Chained, Slots}
 
 -- ---- nothing is stored from n on, so that 0 needs no store
@@ -64,7 +63,7 @@ module _ (directory : List (List ℕ)) (used : List ℕ) where
   abbrev name : ℕ → List ℕ
   name = nameAt directory used
 
-  -- ---- the table
+  -- ---- the slots
 
   pub slots-start : Slots directory used (replicate 2048 0) (replicate 208 0) 0
   slots-start = record {
@@ -188,51 +187,3 @@ module _ (directory : List (List ℕ)) (used : List ℕ) where
           rw (listed-used l j i e h)
           (any-range (λ m. isNamed (nameOf (entryAt directory i)) (entryAt directory m)) 0 i (getD used k 0) (omega arith) (omega arith)
           (is-named _ (entryAt directory (getD used k 0)) u n))
-
-    -- a name that was sought among all
-    module _ (x : List ℕ) {r : ℕ} (f : LastOf name x count r) where
-      abbrev named : ℕ → Bool
-      named i = isNamed x (entryAt directory i)
-
-      pub found-none : r ≡ 0 → entryNamed directory x ≡ none
-      unfolding entryNamed
-      found-none z = lowest-nothing named 0 208 other
-        where
-          other : (k : ℕ) → 0 ≤ k → k < 0 + 208 → named k ≡ false
-          other k a b = go (named k) refl
-            where
-              go : (t : Bool) → named k ≡ t → t ≡ false
-              go false q = refl
-              go true q =
-                  let u = named-used x (entryAt directory k) q in
-                  let y = listed-index l count (omega arith) k (listed-before l k (omega arith) u) u in
-                  absurd (f .others (y .index) (omega arith) (y .low) (rw (← y .is) (named-name x (entryAt directory k) q)))
-
-      pub found-one : ((i : ℕ) → i < 208 → nameTaken directory i ≡ false) → (r ≡ 0 → ⊥) → entryNamed directory x ≡ some (getD used (r - 1) 0)
-      unfolding entryNamed nameTaken
-      found-one free z = lowest-is named 0 208 i (record { low = omega arith; high = below; passes = is-named x (entryAt directory i) u n; none-below = earlier })
-        where
-          i : ℕ
-          i = getD used (r - 1) 0
-
-          within : r - 1 < count
-          within = omega (arith, z, f .within)
-
-          below : i < 0 + 208
-          below = l .each (r - 1) within .before-end
-
-          u : isUsed (entryAt directory i) ≡ true
-          u = l .each (r - 1) within .is-used
-
-          n : nameOf (entryAt directory i) ≡ x
-          n = f .own (r - 1) (omega (arith, z))
-
-          earlier : (k : ℕ) → 0 ≤ k → k < i → named k ≡ false
-          earlier k a b = go (named k) refl
-            where
-              go : (t : Bool) → named k ≡ t → t ≡ false
-              go false q = refl
-              go true q = absurd (false≢true (sym (free i below) ∙ taken q))
-                where
-                  taken : named k ≡ true → nameTaken directory i ≡ true
-                  taken q = rw (u, n) (any-range named 0 i k (omega arith) (omega arith) q)

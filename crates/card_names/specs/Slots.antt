@@ -1,4 +1,4 @@
--- A hash table of the listed names: a shortcut of the searches for a name, and no part of what they mean.
+-- The slots of the listed names: a shortcut of the search for an earlier name, and no part of what it means.
 -- Assumes nothing.
 use Prim.Native.Nat.{ℕ, suc, _+_, _-_, _*_, _/_, _%_, _^_, _≤_, _<_}
 use mathlib.Core.Path.{_≡_}
@@ -7,7 +7,6 @@ use lib.ListN.{length, getD}
 use lib.Bits.{bitXor}
 use Rattle.words.specs.Words.{word}
 use Rattle.card_model.specs.Entries.{nameOf, entryAt}
-use Rattle.card_directory.specs.Listed.{Listed}
 
 -- Four bytes as a number.
 unfoldable pub quad : List ℕ → ℕ → ℕ
@@ -49,9 +48,3 @@ pub record Slots (directory : List (List ℕ)) (used slots next : List ℕ) (n :
   pub next-many : length next ≡ 208
   pub chains : Chained directory used next n
   pub last : (s : ℕ) → s < 2048 → LastOf (slotAt directory used) s n (getD slots s 0)
-
--- The table has the names of all used entries.
-pub record AllNames (directory : List (List ℕ)) (used slots next : List ℕ) : Type 0 where
-  pub count : ℕ
-  pub listed : Listed directory 208 used count
-  pub table : Slots directory used slots next count

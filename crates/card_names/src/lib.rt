@@ -1,32 +1,26 @@
-// Refusal 29 and the search for a name, by a hash table: each slot leads to the last listed entry whose name falls into it, and each
-// entry to the one before it in its slot. Numbers in the table are one more than those of the list, and 0 is none.
+// Refusal 29, by hash: each slot leads to the last listed entry whose name falls into it, and each entry to the one before it in its
+// slot. Numbers in the slots are one more than those of the list, and 0 is none.
 use card_directory::entry::entry_at;
-use card_directory::listing::listed_at;
-use card_directory::search::FoundEntry;
+use card_directory::entry::has_name;
+use card_directory::used::listed_at;
 use verdicts::Place;
 use verdicts::Verdict;
 use verdicts::done;
 use verdicts::refused_at;
-use words::same;
 use words::wide;
 use words::word;
 ghost use mathlib.Core.Path.{_≡_};
-ghost use mathlib.Core.Bool.{true, false};
 ghost use Prim.Native.Nat.{ℕ, suc, _+_, _≤_, _<_};
-ghost use lib.ListN.{length, replicate};
-ghost use Rattle.words.specs.Words.{sameBytes};
-ghost use Rattle.verdicts.specs.Rows.{accepted};
+ghost use lib.ListN.{length};
 ghost use Rattle.card_model.specs.Layout.{directoryOf};
-ghost use Rattle.card_model.specs.Entries.{nameOf, entryAt, nameTaken, nameRow};
-ghost use Rattle.card_model.specs.Calls.{entryNamed};
-ghost use Rattle.card_directory.specs.Found.{asFound};
+ghost use Rattle.card_model.specs.Entries.{nameOf, entryAt, nameRow};
 ghost use Rattle.card_directory.specs.Listed.{Listed};
-ghost use Rattle.card_names.specs.Slots as table;
+ghost use Rattle.card_names.specs.Slots as hash;
 
 // Four bytes as a number.
 fn quad(name: &[u8], i: usize) -> usize
     requires { ⌜ i + 3 < length (now name) ⌝ }
-    ensures { λ r. ⌜ (r ≡ table.quad (now (name .entry)) i) × (r < 4294967296) ⌝ }
+    ensures { λ r. ⌜ (r ≡ hash.quad (now (name .entry)) i) × (r < 4294967296) ⌝ }
 {
     word(name, i) + 65536 * word(name, i + 2)
 }
@@ -34,7 +28,7 @@ fn quad(name: &[u8], i: usize) -> usize
 // The parts of a name in one. Each is rotated by another amount, so that digits that differ at the same place of two parts do not
 // cancel.
 fn mixed(a: u32, b: u32, c: u32) -> u32
-    ensures { λ r. ⌜ r ≡ table.mixed a b c ⌝ }
+    ensures { λ r. ⌜ r ≡ hash.mixed a b c ⌝ }
 {
     a ^ ((b << 9) ^ (b >> 23)) ^ ((c << 19) ^ (c >> 13))
 }
@@ -43,7 +37,7 @@ fn mixed(a: u32, b: u32, c: u32) -> u32
 // the same slot. The factor is below 2^30, so that the product fits.
 fn slot_of(name: &[u8]) -> usize
     requires { ⌜ length (now name) ≡ 12 ⌝ }
-    ensures { λ r. ⌜ (r ≡ table.slotOf (now (name .entry))) × (r < 2048) ⌝ }
+    ensures { λ r. ⌜ (r ≡ hash.slotOf (now (name .entry))) × (r < 2048) ⌝ }
 {
     let a = quad(name, 0) as u32;
     let b = quad(name, 4) as u32;
@@ -54,24 +48,17 @@ fn slot_of(name: &[u8]) -> usize
 // The slot of an entry's name.
 fn entry_slot(entry: &[u8]) -> usize
     requires { ⌜ length (now entry) ≡ 32 ⌝ }
-    ensures { λ r. ⌜ (r ≡ table.slotOf (nameOf (now (entry .entry)))) × (r < 2048) ⌝ }
+    ensures { λ r. ⌜ (r ≡ hash.slotOf (nameOf (now (entry .entry)))) × (r < 2048) ⌝ }
 {
     slot_of(&entry[4..16])
-}
-
-fn has_name(entry: &[u8], name: &[u8]) -> bool
-    requires { ⌜ length (now entry) ≡ 32 ⌝ }
-    ensures { λ r. ⌜ r ≡ sameBytes (nameOf (now (entry .entry))) (now (name .entry)) ⌝ }
-{
-    same(&entry[4..16], name)
 }
 
 // The last of the first listed entries that has this name, where the last of them may have its slot.
 fn find_back(card: &[u8], used: &[u8; 208], next: &[u8; 208], start: usize, name: &[u8]) -> usize
     requires { ⌜ (length (now card) ≡ 131072) × (start ≤ 208) ⌝ }
-    requires { ⌜ table.Chained (directoryOf (now card)) (now used) (now next) start ⌝ }
-    requires { ⌜ ((j : ℕ) → suc j ≡ start → table.slotAt (directoryOf (now card)) (now used) j ≡ table.slotOf (now name)) ⌝ }
-    ensures { λ r. ⌜ table.LastOf (table.nameAt (directoryOf (now (card .entry))) (now (used .entry))) (now (name .entry)) start r ⌝ }
+    requires { ⌜ hash.Chained (directoryOf (now card)) (now used) (now next) start ⌝ }
+    requires { ⌜ ((j : ℕ) → suc j ≡ start → hash.slotAt (directoryOf (now card)) (now used) j ≡ hash.slotOf (now name)) ⌝ }
+    ensures { λ r. ⌜ hash.LastOf (hash.nameAt (directoryOf (now (card .entry))) (now (used .entry))) (now (name .entry)) start r ⌝ }
 {
     let mut k = start;
     while k != 0 {
@@ -86,35 +73,30 @@ fn find_back(card: &[u8], used: &[u8; 208], next: &[u8; 208], start: usize, name
 // The same for the name of entry i.
 fn find_same(card: &[u8], used: &[u8; 208], next: &[u8; 208], start: usize, i: usize) -> usize
     requires { ⌜ (length (now card) ≡ 131072) × (start ≤ 208) × (i < 208) ⌝ }
-    requires { ⌜ table.Chained (directoryOf (now card)) (now used) (now next) start ⌝ }
-    requires { ⌜ ((j : ℕ) → suc j ≡ start → table.slotAt (directoryOf (now card)) (now used) j ≡ table.slotOf (nameOf (entryAt (directoryOf (now card)) i))) ⌝ }
-    ensures { λ r. ⌜ table.LastOf (table.nameAt (directoryOf (now (card .entry))) (now (used .entry))) (nameOf (entryAt (directoryOf (now (card .entry))) i)) start r ⌝ }
+    requires { ⌜ hash.Chained (directoryOf (now card)) (now used) (now next) start ⌝ }
+    requires { ⌜ ((j : ℕ) → suc j ≡ start → hash.slotAt (directoryOf (now card)) (now used) j ≡ hash.slotOf (nameOf (entryAt (directoryOf (now card)) i))) ⌝ }
+    ensures { λ r. ⌜ hash.LastOf (hash.nameAt (directoryOf (now (card .entry))) (now (used .entry))) (nameOf (entryAt (directoryOf (now (card .entry))) i)) start r ⌝ }
 {
     let entry = entry_at(card, i);
     find_back(card, used, next, start, &entry[4..16])
 }
 
-// The refusal at the first entry whose name is taken, from the list of the used entries; where there is none, all names are in the
-// table. What stands before a name in its slot is stored only where there is one.
-pub fn name_row(
-    card: &[u8],
-    used: &[u8; 208],
-    count: usize,
-    slots: &mut [u8; 2048],
-    next: &mut [u8; 208],
-) -> Verdict
-    requires { ⌜ (length (now card) ≡ 131072) × (now slots ≡ replicate 2048 0) × (now next ≡ replicate 208 0) ⌝ }
+// The refusal at the first entry whose name is taken, from the list of the used entries. What stands before a name in its slot is
+// stored only where there is one.
+pub fn name_row(card: &[u8], used: &[u8; 208], count: usize) -> Verdict
+    requires { ⌜ length (now card) ≡ 131072 ⌝ }
     requires { ⌜ Listed (directoryOf (now card)) 208 (now used) count ⌝ }
     ensures { λ r. ⌜ r ≡ nameRow (directoryOf (now (card .entry))) ⌝ }
-    ensures { λ r. ⌜ (accepted r ≡ true → table.AllNames (directoryOf (now (card .entry))) (now (used .entry)) (now (slots .exit)) (now (next .exit))) ⌝ }
 {
+    let mut slots = [0u8; 2048];
+    let mut next = [0u8; 208];
     let mut j = 0;
     while j < count {
         let i = listed_at(used, j);
         let slot = entry_slot(entry_at(card, i));
         let last = slots[slot];
         if last != 0 {
-            if find_same(card, used, next, wide(last), i) != 0 {
+            if find_same(card, used, &next, wide(last), i) != 0 {
                 return refused_at(29, Place::Entry(i));
             }
             next[j] = last;
@@ -123,38 +105,4 @@ pub fn name_row(
         j += 1;
     }
     done()
-}
-
-// The same with a table that isn't kept. It is made only where there are two names.
-pub fn name_row_alone(card: &[u8], used: &[u8; 208], count: usize) -> Verdict
-    requires { ⌜ length (now card) ≡ 131072 ⌝ }
-    requires { ⌜ Listed (directoryOf (now card)) 208 (now used) count ⌝ }
-    ensures { λ r. ⌜ r ≡ nameRow (directoryOf (now (card .entry))) ⌝ }
-{
-    if count < 2 {
-        return done();
-    }
-    let mut slots = [0u8; 2048];
-    let mut next = [0u8; 208];
-    name_row(card, used, count, &mut slots, &mut next)
-}
-
-// The entry of this name, where no two have the same.
-pub fn find_named(
-    card: &[u8],
-    used: &[u8; 208],
-    slots: &[u8; 2048],
-    next: &[u8; 208],
-    name: &[u8],
-) -> FoundEntry
-    requires { ⌜ (length (now card) ≡ 131072) × (length (now name) ≡ 12) ⌝ }
-    requires { ⌜ table.AllNames (directoryOf (now card)) (now used) (now slots) (now next) ⌝ }
-    requires { ⌜ ((i : ℕ) → i < 208 → nameTaken (directoryOf (now card)) i ≡ false) ⌝ }
-    ensures { λ r. ⌜ r ≡ asFound (entryNamed (directoryOf (now (card .entry))) (now (name .entry))) ⌝ }
-{
-    let found = find_back(card, used, next, wide(slots[slot_of(name)]), name);
-    if found == 0 {
-        return FoundEntry::Nothing;
-    }
-    FoundEntry::At(listed_at(used, found - 1))
 }

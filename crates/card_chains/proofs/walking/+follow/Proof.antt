@@ -2,7 +2,8 @@
 use mathlib.Core.Path.{refl, sym, _∙_}
 use native.Mathlib.Omega.{arith}
 use Rattle.card_chains.proofs.LinkLaws.{link-read}
-use Rattle.card_chains.proofs.WalkLaws.{step-below, after-none, after-next, after-stop}
+use Rattle.card_chains.proofs.StepLaws.{after-none, after-next, after-stop}
+use Rattle.card_chains.proofs.WalkLaws.{step-below}
 use borrow.Author.Needs.{needs}
 use Prim.Native.Nat.{ℕ, _<_}
 use borrow.Fn.Kinds.{In}
@@ -75,35 +76,35 @@ module _ (t : ℕ) where
       let k = n .before .before in
       let l = k .before in
       let link = link-read _ _ (l .entry-in .ensures .0) (k .classify .ensures) in
-      (after-next _ _ _ (l .before .if1 .left) link _ _ (n .n .given .1) (c .follow .ensures .0), search needs)
+      (after-next _ _ _ link (l .before .if1 .left) _ _ (n .n .given .1) (c .follow .ensures .0), search needs)
 
   returns-3 : follow-lts.Need-returns-3 (calls t) (follow-at t) follow.Post
   returns-3 c =
       let k = c .before .before in
       let l = k .before in
       let link = link-read _ _ (l .entry-in .ensures .0) (k .classify .ensures) in
-      (after-stop _ _ _ (l .before .if1 .left) link _ (c .enum-told .given .1) tt, search needs)
+      (after-stop _ _ _ link (c .enum-told .given .1) refl, search needs)
 
   returns-4 : follow-lts.Need-returns-4 (calls t) (follow-at t) follow.Post
   returns-4 c =
       let k = c .before .before in
       let l = k .before in
       let link = link-read _ _ (l .entry-in .ensures .0) (k .classify .ensures) in
-      (after-stop _ _ _ (l .before .if1 .left) link _ (c .enum-told2 .given .1) tt, search needs)
+      (after-stop _ _ _ link (c .enum-told2 .given .1) refl, search needs)
 
   returns-5 : follow-lts.Need-returns-5 (calls t) (follow-at t) follow.Post
   returns-5 c =
       let k = c .before .before in
       let l = k .before in
       let link = link-read _ _ (l .entry-in .ensures .0) (k .classify .ensures) in
-      (after-stop _ _ _ (l .before .if1 .left) link _ (c .enum-told3 .given .1) tt, search needs)
+      (after-stop _ _ _ link (c .enum-told3 .given .1) refl, search needs)
 
   returns-6 : follow-lts.Need-returns-6 (calls t) (follow-at t) follow.Post
   returns-6 c =
       let k = c .before .before in
       let l = k .before in
       let link = link-read _ _ (l .entry-in .ensures .0) (k .classify .ensures) in
-      (after-stop _ _ _ (l .before .if1 .left) link _ (c .enum-told4 .given .1) tt, search needs)
+      (after-stop _ _ _ link (c .enum-told4 .given .1) refl, search needs)
 
 pub +follow-spec : {M : Type 1} → statement M
 +follow-spec = close μ-follow λ t. follow-lts.spec (calls t) (follow-at t) follow.Post

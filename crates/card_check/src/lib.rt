@@ -1,0 +1,63 @@
+// The door to a card: refusals 20 to 30 are made here and nowhere else. Every call begins with it.
+use card_chains::walk_files;
+use card_directory::used::entry_row;
+use card_directory::used::list_used;
+use card_games::game_row;
+use card_names::name_row;
+use card_table::table_verdict;
+use verdicts::Place;
+use verdicts::Verdict;
+use verdicts::refused_at;
+ghost use mathlib.Core.Path.{_≡_};
+ghost use mathlib.Core.Bool.{true};
+ghost use lib.ListN.{length};
+ghost use Rattle.verdicts.specs.Rows.{accepted};
+ghost use Rattle.card_model.specs.Calls.{verdictOf};
+ghost use Rattle.card_chains.specs.Marks.{noMarks};
+ghost use Rattle.card_check.specs.Door.{OpenCard};
+
+const LENGTH: usize = 131072;
+
+// The check's verdict, and how many entries are used; 0 where the card is refused.
+pub struct Opened {
+    pub verdict: Verdict,
+    pub count: usize,
+}
+
+fn refused(verdict: Verdict) -> Opened
+    ensures { λ r. ⌜ (r .verdict ≡ verdict) × (r .count ≡ 0) ⌝ }
+{
+    Opened { verdict, count: 0 }
+}
+
+// Lists the used entries and marks the blocks of the files.
+pub fn open(card: &[u8], used: &mut [u8; 208], marks: &mut [u8; 200]) -> Opened
+    requires { ⌜ (length (now used) ≡ 208) × (now marks ≡ noMarks) ⌝ }
+    ensures { λ r. ⌜ r .verdict ≡ verdictOf (now (card .entry)) ⌝ }
+    ensures { λ r. ⌜ (accepted (r .verdict) ≡ true → OpenCard (now (card .entry)) (now (used .exit)) (r .count) (now (marks .exit))) ⌝ }
+{
+    if card.len() != LENGTH {
+        return refused(refused_at(20, Place::Whole));
+    }
+    let table = table_verdict(card);
+    if table.number != 0 {
+        return refused(table);
+    }
+    let count = list_used(card, used);
+    let entries = entry_row(card, used, count);
+    if entries.number != 0 {
+        return refused(entries);
+    }
+    let chains = walk_files(card, used, count, marks);
+    if chains.number != 0 {
+        return refused(chains);
+    }
+    let names = name_row(card, used, count);
+    if names.number != 0 {
+        return refused(names);
+    }
+    Opened {
+        verdict: game_row(card, used, count),
+        count,
+    }
+}
