@@ -25,7 +25,7 @@ ghost use Prim.Native.Nat.{ℕ, _≤_, _<_};
 ghost use lib.Dec.{ltb};
 ghost use lib.ListN.{length};
 ghost use Rattle.verdicts.specs.Rows.{accepted};
-ghost use Rattle.card_model.specs.Layout.{tableOf, directoryOf};
+ghost use Rattle.card_model.specs.Layout.{cardLength, tableOf, directoryOf};
 ghost use Rattle.card_model.specs.Entries.{wrongEntry};
 ghost use Rattle.card_model.specs.Files.{filesBefore, orphans};
 ghost use Rattle.card_model.specs.Sound.{entryOn};
@@ -47,7 +47,7 @@ fn remember(first: usize, i: usize) -> usize
 // Refusals 27 and 28, over the list of the used entries. A bad chain anywhere comes before a shared block, so the first entry that
 // shares one is remembered and the pass goes on.
 pub fn walk_files(card: &[u8], used: &[u8; 208], count: usize, marks: &mut [u8; 200]) -> Verdict
-    requires { ⌜ (length (now card) ≡ 131072) × (now marks ≡ noMarks) ⌝ }
+    requires { ⌜ (length (now card) ≡ cardLength) × (now marks ≡ noMarks) ⌝ }
     requires { ⌜ Listed (directoryOf (now card)) 208 (now used) count ⌝ }
     requires { ⌜ ((i : ℕ) → i < 208 → wrongEntry (entryOn (now card) i) ≡ false) ⌝ }
     ensures { λ r. ⌜ r ≡ chainRows (tableOf (now (card .entry))) (directoryOf (now (card .entry))) ⌝ }
@@ -76,7 +76,7 @@ pub fn walk_files(card: &[u8], used: &[u8; 208], count: usize, marks: &mut [u8; 
 
 // 1 for a block that the table has in use, else 0.
 fn one_if_used(card: &[u8], b: usize) -> u16
-    requires { ⌜ (length (now card) ≡ 131072) × (b < 200) ⌝ }
+    requires { ⌜ (length (now card) ≡ cardLength) × (b < 200) ⌝ }
     ensures { λ r. ⌜ (r ≡ cond (isInUse (tableOf (now (card .entry))) b) 1 0) × (r ≤ 1) ⌝ }
 {
     if free_or_damaged(classify(fat_entry(card, b))) {
@@ -87,7 +87,7 @@ fn one_if_used(card: &[u8], b: usize) -> u16
 
 // How many user blocks the table has in use. The count has as many bits as an entry, so that the loop is compiled to steps of eight.
 fn count_used(card: &[u8]) -> u16
-    requires { ⌜ length (now card) ≡ 131072 ⌝ }
+    requires { ⌜ length (now card) ≡ cardLength ⌝ }
     ensures { λ r. ⌜ r ≡ countTo (isInUse (tableOf (now (card .entry)))) 200 ⌝ }
 {
     let mut count: u16 = 0;
@@ -125,7 +125,7 @@ fn count_marked(marks: &[u8; 200]) -> u8
 
 // How many user blocks are in use but in no file: those in use less those marked, each of which is in use.
 pub fn count_orphans(card: &[u8], marks: &[u8; 200]) -> usize
-    requires { ⌜ length (now card) ≡ 131072 ⌝ }
+    requires { ⌜ length (now card) ≡ cardLength ⌝ }
     requires { ⌜ MarkedFiles (tableOf (now card)) (filesBefore (tableOf (now card)) (directoryOf (now card)) 208) (now marks) ⌝ }
     ensures { λ r. ⌜ r ≡ orphans (tableOf (now (card .entry))) (directoryOf (now (card .entry))) ⌝ }
 {

@@ -7,7 +7,7 @@ ghost use mathlib.Core.Path.{_≡_};
 ghost use mathlib.Core.Bool.{cond};
 ghost use Prim.Native.Nat.{_≤_, _<_};
 ghost use lib.ListN.{length};
-ghost use Rattle.card_model.specs.Layout.{tableOf};
+ghost use Rattle.card_model.specs.Layout.{cardLength, tableOf};
 ghost use Rattle.card_model.specs.Files.{chain};
 ghost use Rattle.card_chains.specs.declared.walking.Finding.the-variants.{Broken};
 ghost use Rattle.card_chains.specs.Marks.{isBroken, isShared, Walkable, Walked};
@@ -98,7 +98,7 @@ fn follow(table: &[u16; 256], block: usize, left: usize) -> usize
 
 // The same over the card's table.
 pub fn block_after(card: &[u8], block: usize, left: usize) -> usize
-    requires { ⌜ (length (now card) ≡ 131072) × (block < 200) ⌝ }
+    requires { ⌜ (length (now card) ≡ cardLength) × (block < 200) ⌝ }
     ensures { λ r. ⌜ (r ≡ blockAfter (tableOf (now (card .entry))) block left) × (r < 200) ⌝ }
 {
     let table = read_table(card);

@@ -45,14 +45,14 @@ module _ (directory : List (List ℕ)) {f : Verdict} (e : f ≡ entryRow directo
 -- ---- the rows in their order
 
 module _ (card : List ℕ) where
-  pub wrong-length : (length card ≡ 131072 → ⊥) → refusedAt 20 Whole ≡ verdictOf card
-  unfolding verdictOf lengthRow cardLength
-  wrong-length n = rw (ne-eqb (length card) 131072 n)
+  pub wrong-length : (length card ≡ cardLength → ⊥) → refusedAt 20 Whole ≡ verdictOf card
+  unfolding verdictOf lengthRow
+  wrong-length n = rw (ne-eqb (length card) cardLength n)
 
   -- from row 21 on
-  pub right-length : length card ≡ 131072 → unlessRefused (tableRows (rootOf card) (tableOf card)) (directoryRows (tableOf card) (directoryOf card)) ≡ verdictOf card
-  unfolding verdictOf lengthRow cardLength
-  right-length e = rw (eq-eqb (length card) 131072 e)
+  pub right-length : length card ≡ cardLength → unlessRefused (tableRows (rootOf card) (tableOf card)) (directoryRows (tableOf card) (directoryOf card)) ≡ verdictOf card
+  unfolding verdictOf lengthRow
+  right-length e = rw (eq-eqb (length card) cardLength e)
 
 -- from row 26 on, with 27 and 28 as one
 pub from-26 : (table : List ℕ) (directory : List (List ℕ))

@@ -39,9 +39,9 @@ pub fn open(card: &[u8], used: &mut [u8; 208], marks: &mut [u8; 200]) -> Opened
     if card.len() != LENGTH {
         return refused(refused_at(20, Place::Whole));
     }
-    let table = table_verdict(card);
-    if table.number != 0 {
-        return refused(table);
+    let of_table = table_verdict(card);
+    if of_table.number != 0 {
+        return refused(of_table);
     }
     let count = list_used(card, used);
     let entries = entry_row(card, used, count);

@@ -5,12 +5,12 @@ ghost use mathlib.Core.Path.{_≡_};
 ghost use Prim.Native.Nat.{_<_};
 ghost use lib.ListN.{length};
 ghost use Rattle.words.specs.Words.{sameBytes};
-ghost use Rattle.card_model.specs.Layout.{directoryOf};
+ghost use Rattle.card_model.specs.Layout.{cardLength, directoryOf};
 ghost use Rattle.card_model.specs.Entries as model;
 
 // The bytes of entry i.
 pub fn entry_at(card: &[u8], i: usize) -> &[u8]
-    requires { ⌜ (length (now card) ≡ 131072) × (i < 208) ⌝ }
+    requires { ⌜ (length (now card) ≡ cardLength) × (i < 208) ⌝ }
     ensures { λ r. ⌜ (now r ≡ model.entryAt (directoryOf (now (card .entry))) i) × (length (now r) ≡ 32) ⌝ }
 {
     let at = (253 - i / 16) * 512 + 32 * (i % 16);

@@ -6,7 +6,7 @@ ghost use mathlib.Core.Path.{_≡_};
 ghost use mathlib.Core.List.{List};
 ghost use Prim.Native.Nat.{ℕ, _≤_};
 ghost use lib.ListN.{length};
-ghost use Rattle.card_model.specs.Layout.{directoryOf};
+ghost use Rattle.card_model.specs.Layout.{cardLength, directoryOf};
 ghost use Rattle.card_model.specs.Calls.{firstUsed, entryNamed};
 ghost use Rattle.card_directory.specs.Found.{asFound};
 ghost use Rattle.card_directory.specs.Listed.{Listed};
@@ -35,7 +35,7 @@ pub fn first_used(used: &[u8; 208], count: usize, start: usize) -> FoundEntry
 
 // The entry of this name.
 pub fn find_named(card: &[u8], used: &[u8; 208], count: usize, name: &[u8]) -> FoundEntry
-    requires { ⌜ length (now card) ≡ 131072 ⌝ }
+    requires { ⌜ length (now card) ≡ cardLength ⌝ }
     requires { ⌜ Listed (directoryOf (now card)) 208 (now used) count ⌝ }
     ensures { λ r. ⌜ r ≡ asFound (entryNamed (directoryOf (now (card .entry))) (now (name .entry))) ⌝ }
 {

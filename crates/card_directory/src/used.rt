@@ -11,7 +11,7 @@ ghost use mathlib.Core.Path.{_≡_};
 ghost use mathlib.Core.Bool.{cond};
 ghost use Prim.Native.Nat.{_+_, _≤_, _<_};
 ghost use lib.ListN.{length, getD};
-ghost use Rattle.card_model.specs.Layout.{directoryOf};
+ghost use Rattle.card_model.specs.Layout.{cardLength, directoryOf};
 ghost use Rattle.card_model.specs.Entries.{entryRow};
 ghost use Rattle.card_directory.specs.Listed.{Listed};
 
@@ -35,7 +35,7 @@ fn one_if(test: bool) -> usize
 // Entry i is put behind the list, and stays there where it is used: the count that is answered has it then. No step depends on
 // whether it is.
 fn put(card: &[u8], used: &mut [u8; 208], count: usize, i: usize) -> usize
-    requires { ⌜ (length (now card) ≡ 131072) × (i < 208) ⌝ }
+    requires { ⌜ (length (now card) ≡ cardLength) × (i < 208) ⌝ }
     requires { ⌜ Listed (directoryOf (now card)) i (now used) count ⌝ }
     ensures { λ r. ⌜ Listed (directoryOf (now (card .entry))) (i + 1) (now (used .exit)) r ⌝ }
 {
@@ -45,7 +45,7 @@ fn put(card: &[u8], used: &mut [u8; 208], count: usize, i: usize) -> usize
 
 // Lists the used entries; answers how many there are.
 pub fn list_used(card: &[u8], used: &mut [u8; 208]) -> usize
-    requires { ⌜ (length (now card) ≡ 131072) × (length (now used) ≡ 208) ⌝ }
+    requires { ⌜ (length (now card) ≡ cardLength) × (length (now used) ≡ 208) ⌝ }
     ensures { λ r. ⌜ Listed (directoryOf (now (card .entry))) 208 (now (used .exit)) r ⌝ }
 {
     let mut count: usize = 0;
@@ -59,7 +59,7 @@ pub fn list_used(card: &[u8], used: &mut [u8; 208]) -> usize
 
 // Refusal 26, of the first wrong entry of the list.
 pub fn entry_row(card: &[u8], used: &[u8; 208], count: usize) -> Verdict
-    requires { ⌜ length (now card) ≡ 131072 ⌝ }
+    requires { ⌜ length (now card) ≡ cardLength ⌝ }
     requires { ⌜ Listed (directoryOf (now card)) 208 (now used) count ⌝ }
     ensures { λ r. ⌜ r ≡ entryRow (directoryOf (now (card .entry))) ⌝ }
 {

@@ -14,7 +14,7 @@ ghost use mathlib.Core.Bool.{true, false};
 ghost use Prim.Native.Nat.{_≤_, _<_};
 ghost use lib.ListN.{length};
 ghost use Rattle.words.specs.Lists.{anyOf, isSome, numbersFrom};
-ghost use Rattle.card_model.specs.Layout.{tableOf, directoryOf};
+ghost use Rattle.card_model.specs.Layout.{cardLength, tableOf, directoryOf};
 ghost use Rattle.card_model.specs.Entries as model;
 ghost use Rattle.card_model.specs.Files.{chain, orEmpty, rising, breaksGameRule, gameRow};
 ghost use Rattle.card_games.specs.Rules.{GoodChains};
@@ -22,7 +22,7 @@ ghost use Rattle.card_directory.specs.Listed.{Listed};
 
 // Whether an entry before i is a game.
 fn game_before(card: &[u8], i: usize) -> bool
-    requires { ⌜ (length (now card) ≡ 131072) × (i ≤ 208) ⌝ }
+    requires { ⌜ (length (now card) ≡ cardLength) × (i ≤ 208) ⌝ }
     ensures { λ r. ⌜ r ≡ anyOf (λ j. model.isGame (model.entryAt (directoryOf (now (card .entry))) j)) (numbersFrom 0 i) ⌝ }
 {
     let mut j = 0;
@@ -38,7 +38,7 @@ fn game_before(card: &[u8], i: usize) -> bool
 // Whether each block of the chain from block 0 is followed by the one above it. The loop has no way out, so that it is compiled to
 // steps of several blocks.
 fn rises(card: &[u8], blocks: usize) -> bool
-    requires { ⌜ (length (now card) ≡ 131072) × (blocks ≤ 200) ⌝ }
+    requires { ⌜ (length (now card) ≡ cardLength) × (blocks ≤ 200) ⌝ }
     requires { ⌜ isSome (chain (tableOf (now card)) blocks 0) ≡ true ⌝ }
     ensures { λ r. ⌜ r ≡ rising (orEmpty (chain (tableOf (now (card .entry))) blocks 0)) ⌝ }
 {
@@ -52,7 +52,7 @@ fn rises(card: &[u8], blocks: usize) -> bool
 }
 
 fn breaks_game_rule(card: &[u8], i: usize) -> bool
-    requires { ⌜ (length (now card) ≡ 131072) × (i < 208) ⌝ }
+    requires { ⌜ (length (now card) ≡ cardLength) × (i < 208) ⌝ }
     requires { ⌜ GoodChains (tableOf (now card)) (directoryOf (now card)) ⌝ }
     ensures { λ r. ⌜ r ≡ breaksGameRule (tableOf (now (card .entry))) (directoryOf (now (card .entry))) i ⌝ }
 {
@@ -75,7 +75,7 @@ fn breaks_game_rule(card: &[u8], i: usize) -> bool
 
 // The refusal at the first listed entry that breaks the rule.
 pub fn game_row(card: &[u8], used: &[u8; 208], count: usize) -> Verdict
-    requires { ⌜ length (now card) ≡ 131072 ⌝ }
+    requires { ⌜ length (now card) ≡ cardLength ⌝ }
     requires { ⌜ GoodChains (tableOf (now card)) (directoryOf (now card)) ⌝ }
     requires { ⌜ Listed (directoryOf (now card)) 208 (now used) count ⌝ }
     ensures { λ r. ⌜ r ≡ gameRow (tableOf (now (card .entry))) (directoryOf (now (card .entry))) ⌝ }

@@ -19,11 +19,11 @@ use Rattle.words.proofs.JoinLaws.{all-append, all-has, distinct-append, none-ra
 use Rattle.card_model.specs.declared.Link.{Link}
 use Rattle.card_model.specs.declared.Link.the-variants.{Free, Damaged, Last, Next, Bad}
 use Rattle.card_model.specs.Layout.{tableOf, directoryOf}
-use Rattle.card_model.specs.Table.{linkAt, freeOrDamaged}
+use Rattle.card_model.specs.Table.{linkAt, freeOrDamaged, isFree, isDamaged, countBlocks}
 use Rattle.card_model.specs.Entries.{firstBlock, size, isUsed, isGame}
 use Rattle.card_model.specs.Files.{chain, chainOf, fileOf, filesBefore, sharesBlock, rising, breaksGameRule, isOrphan, orphans}
 use Rattle.card_model.specs.Sound.{SoundCard, NoRowRefuses, entryOn, fileOn, UsedEntry}
-use Rattle.card_model.specs.Theorems.{SoundFile, IsChain, isFree, isDamaged, countBlocks, blocksInFiles}
+use Rattle.card_model.specs.Theorems.{SoundFile, IsChain, blocksInFiles}
 use Rattle.card_model.proofs.ChainLaws.{chain-length, chain-below, chain-distinct, chain-used, chain-head, chain-exactly}
 use Rattle.card_model.proofs.EntryLaws.{right-entry, file-chain, no-file, files-snoc}
 use Rattle.card_model.proofs.SoundLaws.{sound-rows}

@@ -5,12 +5,14 @@ use Prim.Native.Nat.{ℕ, _-_}
 use mathlib.Core.Bool.{Bool, true, false, not, cond, _&&_, _||_}
 use mathlib.Core.List.{List}
 use lib.Dec.{eqb, ltb}
-use lib.ListN.{getD, take, replicate}
+use lib.ListN.{length, getD, take, replicate}
+use Rattle.words.specs.Lists.{keep, numbersFrom}
 use Rattle.words.specs.Search.{lowest}
 use Rattle.words.specs.Words.{word, sameBytes}
 use Rattle.verdicts.specs.declared.Place.the-variants.{Block}
 use Rattle.verdicts.specs.declared.Verdict.{Verdict}
 use Rattle.verdicts.specs.Rows.{rowAt, rowOver}
+use Rattle.card_model.specs.Layout.{tableOf}
 use Rattle.card_model.specs.declared.Link.{Link}
 use Rattle.card_model.specs.declared.Link.the-variants.{Free, Damaged, Last, Next, Bad}
 
@@ -63,6 +65,20 @@ freeOrDamaged Last = false
 freeOrDamaged (Next n) = false
 freeOrDamaged Bad = false
 
+abbrev pub isFree : Link → Bool
+isFree Free = true
+isFree Damaged = false
+isFree Last = false
+isFree (Next n) = false
+isFree Bad = false
+
+abbrev pub isDamaged : Link → Bool
+isDamaged Free = false
+isDamaged Damaged = true
+isDamaged Last = false
+isDamaged (Next n) = false
+isDamaged Bad = false
+
 -- None of the four classes.
 abbrev pub isBad : Link → Bool
 isBad Free = false
@@ -70,6 +86,10 @@ isBad Damaged = false
 isBad Last = false
 isBad (Next n) = false
 isBad Bad = true
+
+-- How many user blocks have an entry of this class.
+abbrev pub countBlocks : List ℕ → (Link → Bool) → ℕ
+countBlocks card class = length (keep (λ b. class (linkAt (tableOf card) b)) (numbersFrom 0 200))
 
 -- "hidden blocks are 200..240"
 unfoldable pub wrongHidden : List ℕ → ℕ → Bool

@@ -13,10 +13,8 @@ use Rattle.verdicts.specs.declared.Place.{Place}
 use Rattle.verdicts.specs.declared.Place.the-variants.{Whole, Block, Entry}
 use Rattle.verdicts.specs.declared.Verdict.{Verdict}
 use Rattle.verdicts.specs.Rows.{done, placeNumber, refusedAt}
-use Rattle.card_model.specs.declared.Link.{Link}
-use Rattle.card_model.specs.declared.Link.the-variants.{Free, Damaged, Last, Next, Bad}
 use Rattle.card_model.specs.Layout.{cardLength, rootOf, tableOf, directoryOf}
-use Rattle.card_model.specs.Table.{fatEntry, linkAt, systemEntry}
+use Rattle.card_model.specs.Table.{fatEntry, isFree, isDamaged, countBlocks, systemEntry}
 use Rattle.card_model.specs.Entries.{kind, flag, firstBlock, nameOf, size, headerOffset, isUsed, isData, isGame}
 use Rattle.card_model.specs.Files.{chain, filesBefore}
 use Rattle.card_model.specs.Files as files
@@ -30,24 +28,6 @@ pub record SoundFile (card : List ℕ) (i : ℕ) : Type 0 where
   pub not-empty : 1 ≤ size (entryOn card i)
   pub user-blocks : (b : ℕ) → has b (fileOn card i) ≡ true → b < 200
   pub no-repeat : Distinct (fileOn card i)
-
-abbrev pub isFree : Link → Bool
-isFree Free = true
-isFree Damaged = false
-isFree Last = false
-isFree (Next n) = false
-isFree Bad = false
-
-abbrev pub isDamaged : Link → Bool
-isDamaged Free = false
-isDamaged Damaged = true
-isDamaged Last = false
-isDamaged (Next n) = false
-isDamaged Bad = false
-
--- How many user blocks have an entry of this class.
-abbrev pub countBlocks : List ℕ → (Link → Bool) → ℕ
-countBlocks card class = length (keep (λ b. class (linkAt (tableOf card) b)) (numbersFrom 0 200))
 
 -- How many blocks the files have together.
 abbrev pub blocksInFiles : List ℕ → ℕ

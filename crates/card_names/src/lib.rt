@@ -12,7 +12,7 @@ use words::word;
 ghost use mathlib.Core.Path.{_≡_};
 ghost use Prim.Native.Nat.{ℕ, suc, _+_, _≤_, _<_};
 ghost use lib.ListN.{length};
-ghost use Rattle.card_model.specs.Layout.{directoryOf};
+ghost use Rattle.card_model.specs.Layout.{cardLength, directoryOf};
 ghost use Rattle.card_model.specs.Entries.{nameOf, entryAt, nameRow};
 ghost use Rattle.card_directory.specs.Listed.{Listed};
 ghost use Rattle.card_names.specs.Slots as hash;
@@ -55,7 +55,7 @@ fn entry_slot(entry: &[u8]) -> usize
 
 // The last of the first listed entries that has this name, where the last of them may have its slot.
 fn find_back(card: &[u8], used: &[u8; 208], next: &[u8; 208], start: usize, name: &[u8]) -> usize
-    requires { ⌜ (length (now card) ≡ 131072) × (start ≤ 208) ⌝ }
+    requires { ⌜ (length (now card) ≡ cardLength) × (start ≤ 208) ⌝ }
     requires { ⌜ hash.Chained (directoryOf (now card)) (now used) (now next) start ⌝ }
     requires { ⌜ ((j : ℕ) → suc j ≡ start → hash.slotAt (directoryOf (now card)) (now used) j ≡ hash.slotOf (now name)) ⌝ }
     ensures { λ r. ⌜ hash.LastOf (hash.nameAt (directoryOf (now (card .entry))) (now (used .entry))) (now (name .entry)) start r ⌝ }
@@ -72,7 +72,7 @@ fn find_back(card: &[u8], used: &[u8; 208], next: &[u8; 208], start: usize, name
 
 // The same for the name of entry i.
 fn find_same(card: &[u8], used: &[u8; 208], next: &[u8; 208], start: usize, i: usize) -> usize
-    requires { ⌜ (length (now card) ≡ 131072) × (start ≤ 208) × (i < 208) ⌝ }
+    requires { ⌜ (length (now card) ≡ cardLength) × (start ≤ 208) × (i < 208) ⌝ }
     requires { ⌜ hash.Chained (directoryOf (now card)) (now used) (now next) start ⌝ }
     requires { ⌜ ((j : ℕ) → suc j ≡ start → hash.slotAt (directoryOf (now card)) (now used) j ≡ hash.slotOf (nameOf (entryAt (directoryOf (now card)) i))) ⌝ }
     ensures { λ r. ⌜ hash.LastOf (hash.nameAt (directoryOf (now (card .entry))) (now (used .entry))) (nameOf (entryAt (directoryOf (now (card .entry))) i)) start r ⌝ }
@@ -84,7 +84,7 @@ fn find_same(card: &[u8], used: &[u8; 208], next: &[u8; 208], start: usize, i: u
 // The refusal at the first entry whose name is taken, from the list of the used entries. What stands before a name in its slot is
 // stored only where there is one.
 pub fn name_row(card: &[u8], used: &[u8; 208], count: usize) -> Verdict
-    requires { ⌜ length (now card) ≡ 131072 ⌝ }
+    requires { ⌜ length (now card) ≡ cardLength ⌝ }
     requires { ⌜ Listed (directoryOf (now card)) 208 (now used) count ⌝ }
     ensures { λ r. ⌜ r ≡ nameRow (directoryOf (now (card .entry))) ⌝ }
 {

@@ -24,7 +24,7 @@ use Rattle.card_model.specs.Table.{fatEntry, magicRow, fieldsRow, wrongSystem, 
 use Rattle.card_model.specs.Calls.{tableRows}
 use Rattle.card_table.specs.declared.Region.{Region}
 use Rattle.card_table.specs.declared.Region.the-variants.{System, Hidden, User}
-use Rattle.card_table.specs.Regions.{Ready, entryRows}
+use Rattle.card_table.specs.Regions.{Ready, regionRows}
 
 pub entry-word : (card : List ℕ) (b : ℕ) → b < 256 → word card (130048 + 2 * b) ≡ fatEntry (tableOf card) b
 unfolding fatEntry tableOf fatPlace
@@ -70,28 +70,28 @@ none-wrong p a n r e t = lowest-nothing p a n (none-range p a n (sym e ∙ t))
 
 -- rows 23 to 25 by what is found
 module _ (table : List ℕ) where
-  pub system-refused : (b : ℕ) → lowest (wrongSystem table) 241 15 ≡ some b → refusedAt 23 (Block b) ≡ entryRows table
-  unfolding entryRows systemRow
+  pub system-refused : (b : ℕ) → lowest (wrongSystem table) 241 15 ≡ some b → refusedAt 23 (Block b) ≡ regionRows table
+  unfolding regionRows systemRow
   system-refused b e = rw e
 
   module _ {s : Bool} (p : s ≡ anyOf (wrongSystem table) (numbersFrom 241 15)) (no-s : s ≡ false) where
     system : lowest (wrongSystem table) 241 15 ≡ none
     system = none-wrong (wrongSystem table) 241 15 s p no-s
 
-    pub hidden-refused : (b : ℕ) → lowest (wrongHidden table) 200 41 ≡ some b → refusedAt 24 (Block b) ≡ entryRows table
-    unfolding entryRows systemRow hiddenRow
+    pub hidden-refused : (b : ℕ) → lowest (wrongHidden table) 200 41 ≡ some b → refusedAt 24 (Block b) ≡ regionRows table
+    unfolding regionRows systemRow hiddenRow
     hidden-refused b e = rw (system, e)
 
     module _ {h : Bool} (q : h ≡ anyOf (wrongHidden table) (numbersFrom 200 41)) (no-h : h ≡ false) where
       hidden : lowest (wrongHidden table) 200 41 ≡ none
       hidden = none-wrong (wrongHidden table) 200 41 h q no-h
 
-      pub user-refused : (b : ℕ) → lowest (wrongUser table) 0 200 ≡ some b → refusedAt 25 (Block b) ≡ entryRows table
-      unfolding entryRows systemRow hiddenRow userRow
+      pub user-refused : (b : ℕ) → lowest (wrongUser table) 0 200 ≡ some b → refusedAt 25 (Block b) ≡ regionRows table
+      unfolding regionRows systemRow hiddenRow userRow
       user-refused b e = rw (system, hidden, e)
 
-      pub none-refused : {u : Bool} → u ≡ anyOf (wrongUser table) (numbersFrom 0 200) → u ≡ false → done ≡ entryRows table
-      unfolding entryRows systemRow hiddenRow userRow
+      pub none-refused : {u : Bool} → u ≡ anyOf (wrongUser table) (numbersFrom 0 200) → u ≡ false → done ≡ regionRows table
+      unfolding regionRows systemRow hiddenRow userRow
       none-refused {u} e no-u = rw (system, hidden, none-wrong (wrongUser table) 0 200 u e no-u)
 
 -- past the root: r is what was found of rows 21 and 22
@@ -100,6 +100,6 @@ module _ (root table : List ℕ) (r : Verdict) (e : r ≡ unlessRefused (magicRo
   unfolding tableRows
   root-refused n = sym (rows-joined (magicRow root) (fieldsRow root) _) ∙ refused-first _ _ r e n
 
-  pub root-passed : r .number ≡ 0 → tableRows root table ≡ entryRows table
-  unfolding tableRows entryRows
+  pub root-passed : r .number ≡ 0 → tableRows root table ≡ regionRows table
+  unfolding tableRows regionRows
   root-passed n = sym (rows-joined (magicRow root) (fieldsRow root) _) ∙ not-refused _ _ r e n

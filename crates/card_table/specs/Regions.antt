@@ -20,5 +20,5 @@ Ready System b = 1 ≤ b
 Ready Hidden b = Unit {0}
 Ready User b = Unit {0}
 
-unfoldable pub entryRows : List ℕ → Verdict
-entryRows table = unlessRefused (systemRow table) (unlessRefused (hiddenRow table) (userRow table))
+unfoldable pub regionRows : List ℕ → Verdict
+regionRows table = unlessRefused (systemRow table) (unlessRefused (hiddenRow table) (userRow table))

@@ -14,10 +14,10 @@ ghost use lib.ListN.{length};
 ghost use Rattle.words.specs.Lists.{anyOf, numbersFrom};
 ghost use Rattle.words.specs.Search.{lowest};
 ghost use Rattle.verdicts.specs.Rows.{unlessRefused};
-ghost use Rattle.card_model.specs.Layout.{rootOf, tableOf};
+ghost use Rattle.card_model.specs.Layout.{cardLength, rootOf, tableOf};
 ghost use Rattle.card_model.specs.Table.{magicRow, fieldsRow, rightFields, fatEntry, linkOf, systemEntry, freeOrDamaged, isBad};
 ghost use Rattle.card_model.specs.Calls.{tableRows};
-ghost use Rattle.card_table.specs.Regions.{wrongIn, Ready, entryRows};
+ghost use Rattle.card_table.specs.Regions.{wrongIn, Ready, regionRows};
 
 const LENGTH: usize = 131072;
 
@@ -34,7 +34,7 @@ pub(crate) enum Region {
 
 // The table's entry of a block. It is read from a part of its own, so that its two bytes are one load.
 pub fn fat_entry(card: &[u8], b: usize) -> usize
-    requires { ⌜ (length (now card) ≡ 131072) × (b < 256) ⌝ }
+    requires { ⌜ (length (now card) ≡ cardLength) × (b < 256) ⌝ }
     ensures { λ r. ⌜ (r ≡ fatEntry (tableOf (now (card .entry))) b) × (r < 65536) ⌝ }
 {
     let at = TABLE + 2 * b;
@@ -44,7 +44,7 @@ pub fn fat_entry(card: &[u8], b: usize) -> usize
 
 // The whole table. Its numbers have no more than their two bytes, so that a loop over it is compiled to steps of several entries.
 pub fn read_table(card: &[u8]) -> [u16; 256]
-    requires { ⌜ length (now card) ≡ 131072 ⌝ }
+    requires { ⌜ length (now card) ≡ cardLength ⌝ }
     ensures { λ r. ⌜ r ≡ tableOf (now (card .entry)) ⌝ }
 {
     let mut table = [0u16; 256];
@@ -105,7 +105,7 @@ fn system_entry(b: usize) -> usize
 }
 
 fn is_wrong(card: &[u8], region: Region, b: usize) -> bool
-    requires { ⌜ (length (now card) ≡ 131072) × (b < 256) ⌝ }
+    requires { ⌜ (length (now card) ≡ cardLength) × (b < 256) ⌝ }
     requires { ⌜ Ready region b ⌝ }
     ensures { λ r. ⌜ r ≡ wrongIn region (tableOf (now (card .entry))) b ⌝ }
 {
@@ -119,7 +119,7 @@ fn is_wrong(card: &[u8], region: Region, b: usize) -> bool
 
 // Whether a block of a range is wrong. The loop has no way out, so that it is compiled to steps of several entries.
 fn any_wrong(card: &[u8], region: Region, from: usize, to: usize) -> bool
-    requires { ⌜ (length (now card) ≡ 131072) × (to ≤ 256) ⌝ }
+    requires { ⌜ (length (now card) ≡ cardLength) × (to ≤ 256) ⌝ }
     requires { ⌜ Ready region from ⌝ }
     ensures { λ r. ⌜ r ≡ anyOf (wrongIn region (tableOf (now (card .entry)))) (numbersFrom from (to - from)) ⌝ }
 {
@@ -134,7 +134,7 @@ fn any_wrong(card: &[u8], region: Region, from: usize, to: usize) -> bool
 
 // The first wrong block of a range, which is looked for only where there is one.
 fn first_wrong(card: &[u8], region: Region, from: usize, to: usize) -> usize
-    requires { ⌜ (length (now card) ≡ 131072) × (to ≤ 256) ⌝ }
+    requires { ⌜ (length (now card) ≡ cardLength) × (to ≤ 256) ⌝ }
     requires { ⌜ Ready region from ⌝ }
     requires { ⌜ anyOf (wrongIn region (tableOf (now card))) (numbersFrom from (to - from)) ≡ true ⌝ }
     ensures { λ r. ⌜ lowest (wrongIn region (tableOf (now (card .entry)))) from (to - from) ≡ some r ⌝ }
@@ -150,9 +150,9 @@ fn first_wrong(card: &[u8], region: Region, from: usize, to: usize) -> usize
 }
 
 // Refusals 23 to 25. The table is read where it stands.
-fn entries_verdict(card: &[u8]) -> Verdict
-    requires { ⌜ length (now card) ≡ 131072 ⌝ }
-    ensures { λ r. ⌜ r ≡ entryRows (tableOf (now (card .entry))) ⌝ }
+fn regions_verdict(card: &[u8]) -> Verdict
+    requires { ⌜ length (now card) ≡ cardLength ⌝ }
+    ensures { λ r. ⌜ r ≡ regionRows (tableOf (now (card .entry))) ⌝ }
 {
     if any_wrong(card, Region::System, 241, 256) {
         return refused_at(
@@ -199,12 +199,12 @@ fn root_verdict(root: &[u8]) -> Verdict
 
 // Refusals 21 to 25.
 pub fn table_verdict(card: &[u8]) -> Verdict
-    requires { ⌜ length (now card) ≡ 131072 ⌝ }
+    requires { ⌜ length (now card) ≡ cardLength ⌝ }
     ensures { λ r. ⌜ r ≡ tableRows (rootOf (now (card .entry))) (tableOf (now (card .entry))) ⌝ }
 {
     let root = root_verdict(&card[ROOT..LENGTH]);
     if root.number != 0 {
         return root;
     }
-    entries_verdict(card)
+    regions_verdict(card)
 }

@@ -3,7 +3,6 @@ use mathlib.Core.Path.{refl, _∙_}
 use mathlib.Core.List.{List}
 use Prim.Native.Nat.{ℕ}
 use borrow.Author.Tests.{eq-eqb}
-use Rattle.card_model.specs.Layout.{cardLength}
 use Rattle.card_chains.specs.Marks.{noMarks}
 use Rattle.card_check.specs.Door.{OpenCard}
 use Rattle.card.proofs.AnswerLaws.{check-refused, check-passed}
@@ -28,7 +27,6 @@ returns c =
     c .not-checked .ensures ∙ check-refused (card o) _ (o .«open» .ensures .0) (d .if1 .taken)
 
 count-orphans-requires : tie.Need-count-orphans-requires
-unfolding cardLength
 count-orphans-requires c κs =
     let d = c .before in
     let o = opened (d .before) .«open» .ensures .1 (eq-eqb _ _ (d .if1 .left)) in

@@ -3,7 +3,7 @@ use mathlib.Core.Path.{refl, sym, ap, _∙_}
 use mathlib.Core.List.{List}
 use Prim.Native.Nat.{ℕ}
 use borrow.Author.Tests.{eq-eqb}
-use Rattle.card_model.specs.Layout.{cardLength, directoryOf}
+use Rattle.card_model.specs.Layout.{directoryOf}
 use Rattle.card_model.specs.Calls.{notListed, listedEntry}
 use Rattle.card_directory.proofs.DirectoryLaws.{found-some, found-none}
 use Rattle.card_chains.specs.Marks.{noMarks}
@@ -58,7 +58,6 @@ returns-2 c =
     c .not-listed2 .ensures ∙ ap notListed (c .before .refused-at .ensures) ∙ list-passed (card d) _ (opened d .«open» .ensures .0) (from d) (d .if1 .left) _ q
 
 entry-at-requires : tie.Need-entry-at-requires
-unfolding cardLength
 entry-at-requires c κs =
     let u = c .before .before .before in
     let d = accepted u in

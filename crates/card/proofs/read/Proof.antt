@@ -5,7 +5,7 @@ use mathlib.Core.List.{List}
 use mathlib.Core.Option.{some}
 use borrow.Author.Tests.{eq-eqb}
 use Rattle.verdicts.specs.declared.Verdict.{Verdict}
-use Rattle.card_model.specs.Layout.{cardLength, directoryOf}
+use Rattle.card_model.specs.Layout.{directoryOf}
 use Rattle.card_model.specs.Calls.{entryNamed, readVerdict, readBuffer}
 use Rattle.card_directory.proofs.DirectoryLaws.{found-some, found-none}
 use Rattle.card_chains.specs.Marks.{noMarks}
@@ -72,7 +72,6 @@ returns-3 c =
     answered d (wrong-block _ _ _ _ _ (c .refused-at2 .ensures) (c .before .if3 .taken))
 
 find-named-requires : tie.Need-find-named-requires
-unfolding cardLength
 find-named-requires c κs =
     let d = accepted (c .before) in
     (door d .rows .long, door d .listed)

@@ -17,7 +17,6 @@ abbrev tested : tie.Else1 → tie.After-size
 tested c = c .before
 
 entry-at-requires : tie.Need-entry-at-requires
-unfolding cardLength
 entry-at-requires c κs =
     let a = c .before .before .pre in
     (a .0 .long, a .1 .in-directory)
@@ -31,7 +30,6 @@ returns c =
     past-end _ (a .pre .0) _ (a .pre .1) _ (z .before .entry-at .ensures .0) _ _ _ (c .refused-at .ensures) h
 
 block-after-requires : tie.Need-block-after-requires
-unfolding cardLength
 block-after-requires c κs =
     let z = tested (c .before) in
     let a = start z in

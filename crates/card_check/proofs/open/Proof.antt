@@ -7,7 +7,8 @@ use native.Mathlib.Omega.{arith}
 use borrow.Author.Tests.{eq-eqb}
 use Rattle.verdicts.specs.declared.Verdict.{Verdict}
 use Rattle.verdicts.specs.Rows.{accepted, unlessRefused}
-use Rattle.card_model.specs.Layout.{rootOf, tableOf, directoryOf}
+use lib.ListN.{length}
+use Rattle.card_model.specs.Layout.{cardLength, rootOf, tableOf, directoryOf}
 use Rattle.card_model.specs.Entries.{entryRow, nameRow}
 use Rattle.card_model.specs.Files.{gameRow}
 use Rattle.card_model.specs.Calls.{tableRows, directoryRows, verdictOf}
@@ -41,6 +42,10 @@ card-26 c = card (past-20 (past-25 c))
 abbrev listed : tie.Else3 → tie.After-list-used
 listed c = c .before .before .before .before
 
+long : (c : tie.Else1) → length (card c) ≡ cardLength
+unfolding cardLength
+long c = c .if1 .left
+
 -- ---- what the rows from there on decide
 
 abbrev from-29 : List ℕ → Verdict
@@ -50,7 +55,7 @@ abbrev from-27 : List ℕ → Verdict
 from-27 s = unlessRefused (chainRows (tableOf s) (directoryOf s)) (from-29 s)
 
 at-21 : (c : tie.Else1) → unlessRefused (tableRows (rootOf (card c)) (tableOf (card c))) (directoryRows (tableOf (card c)) (directoryOf (card c))) ≡ verdictOf (card c)
-at-21 c = right-length _ (c .if1 .left)
+at-21 c = right-length _ (long c)
 
 at-26 : (c : tie.Else2) → unlessRefused (entryRow (directoryOf (card (past-20 c)))) (from-27 (card (past-20 c))) ≡ verdictOf (card (past-20 c))
 at-26 c = sym (from-26 _ _) ∙ passes _ _ (at-21 (past-20 c)) (c .before .before .table-verdict .ensures) (c .if2 .left)
@@ -65,6 +70,7 @@ at-30 : (c : tie.Else5) → gameRow (tableOf (card-26 (past-26 (past-28 c)))) (d
 at-30 c = passes _ _ (at-29 (past-28 c)) (c .before .before .name-row .ensures) (c .if5 .left)
 
 returns : tie.Need-returns
+unfolding cardLength
 returns c =
     let d = c .before .before in
     refusal (c .refused .ensures .0 ∙ c .before .refused-at .ensures) (λ z. omega (arith, z)) (wrong-length _ (d .if1 .taken))
@@ -81,17 +87,30 @@ returns-3 c =
     let t = d .before .before in
     refusal (c .refused3 .ensures .0) (d .if3 .taken) (refuses _ _ (at-26 (t .before .before .before .before)) (t .entry-row .ensures) (d .if3 .taken))
 
+list-used-requires : tie.Need-list-used-requires
+list-used-requires c κs =
+    let d = past-20 (c .before) in
+    (long d, d .before .before .pre .0)
+
+entry-row-requires : tie.Need-entry-row-requires
+entry-row-requires c κs = (long (past-20 (c .before .before .before)), c .before .list-used .ensures)
+
 walk-files-requires : tie.Need-walk-files-requires
 walk-files-requires c κs =
     let d = c .before .before in
     let e = past-20 (past-25 d) in
-    ((e .if1 .left, e .before .before .pre .1), (listed d .list-used .ensures, entries-right _ (d .before .before .entry-row .ensures) (d .if3 .left)))
+    ((long e, e .before .before .pre .1), (listed d .list-used .ensures, entries-right _ (d .before .before .entry-row .ensures) (d .if3 .left)))
 
 returns-4 : tie.Need-returns-4
 returns-4 c =
     let d = c .before in
     let t = d .before .before in
     refusal (c .refused4 .ensures .0) (d .if4 .taken) (refuses _ _ (at-27 (t .before .before .before)) (t .walk-files .ensures .0) (d .if4 .taken))
+
+name-row-requires : tie.Need-name-row-requires
+name-row-requires c κs =
+    let d = past-26 (c .before) in
+    (long (past-20 (past-25 d)), listed d .list-used .ensures)
 
 returns-5 : tie.Need-returns-5
 returns-5 c =
@@ -104,7 +123,7 @@ game-row-requires c κs =
     let d = past-28 (c .before) in
     let e = past-26 d in
     let good = good-chains _ (e .before .before .entry-row .ensures) (e .if3 .left) _ (d .before .before .walk-files .ensures .0) (d .if4 .left) in
-    (past-20 (past-25 e) .if1 .left, (good, listed e .list-used .ensures))
+    (long (past-20 (past-25 e)), (good, listed e .list-used .ensures))
 
 returns-6 : tie.Need-returns-6
 returns-6 c =
@@ -125,17 +144,17 @@ open-spec =
     (λ c κs. search needs)
     (λ c κs. search needs)
     returns
-    (λ c κs. search needs)
+    (λ c κs. long c)
     (λ c κs. search needs)
     returns-2
-    (λ c κs. search needs)
-    (λ c κs. search needs)
+    list-used-requires
+    entry-row-requires
     (λ c κs. search needs)
     returns-3
     walk-files-requires
     (λ c κs. search needs)
     returns-4
-    (λ c κs. search needs)
+    name-row-requires
     (λ c κs. search needs)
     returns-5
     game-row-requires

@@ -1,5 +1,6 @@
 -- `fat_entry` meets its contract. Assumes nothing.
 use mathlib.Core.Path.{_∙_}
+use Rattle.card_model.specs.Layout.{cardLength}
 use Rattle.card_table.proofs.TableLaws.{part-word, entry-word}
 use borrow.Author.Needs.{needs}
 use Rattle.card_table.proofs.fat_entry.Statement.{statement}
@@ -24,6 +25,7 @@ part-word-start : tie.Need-part-word-start
 part-word-start c = search needs
 
 part-word-end : tie.Need-part-word-end
+unfolding cardLength
 part-word-end c = search needs
 
 word-requires : tie.Need-word-requires

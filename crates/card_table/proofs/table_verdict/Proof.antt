@@ -1,6 +1,6 @@
 -- `table_verdict` meets its contract: the first row that refuses, in order. Assumes nothing.
 use mathlib.Core.Path.{sym, _∙_}
-use Rattle.card_model.specs.Layout.{blockAt, rootOf, tableOf}
+use Rattle.card_model.specs.Layout.{cardLength, blockAt, rootOf, tableOf}
 use Rattle.card_table.proofs.TableLaws.{root-refused, root-passed}
 use borrow.Author.Needs.{needs}
 use Rattle.card_table.proofs.table_verdict.Statement.{statement}
@@ -13,9 +13,11 @@ part-root-verdict-start : tie.Need-part-root-verdict-start
 part-root-verdict-start c = search needs
 
 part-root-verdict-end : tie.Need-part-root-verdict-end
+unfolding cardLength
 part-root-verdict-end c = search needs
 
 root-verdict-requires : tie.Need-root-verdict-requires
+unfolding cardLength
 root-verdict-requires c κs = search needs
 
 returns : tie.Need-returns
@@ -25,8 +27,8 @@ returns c =
     let card = c .before .before .before .before .before .args .card .now in
     sym (root-refused (rootOf card) (tableOf card) (v .result) (v .ensures) (c .if1 .taken))
 
-entries-verdict-requires : tie.Need-entries-verdict-requires
-entries-verdict-requires c κs = search needs
+regions-verdict-requires : tie.Need-regions-verdict-requires
+regions-verdict-requires c κs = search needs
 
 returns-2 : tie.Need-returns-2
 unfolding rootOf blockAt
@@ -34,7 +36,7 @@ returns-2 c =
     let i = c .before in
     let v = i .before .before .root-verdict in
     let card = i .before .before .before .before .before .args .card .now in
-    c .entries-verdict .ensures
+    c .regions-verdict .ensures
     ∙ sym (root-passed (rootOf card) (tableOf card) (v .result) (v .ensures) (i .if1 .left))
 
 pub table-verdict-spec : {M : Type 1} → statement M
@@ -46,5 +48,5 @@ table-verdict-spec =
     part-root-verdict-end
     root-verdict-requires
     returns
-    entries-verdict-requires
+    regions-verdict-requires
     returns-2)

@@ -1,6 +1,6 @@
 -- `entry_at` meets its contract. Assumes nothing.
 use mathlib.Core.Path.{refl}
-use Rattle.card_model.specs.Layout.{entryBlock, entryByte, entryPlace}
+use Rattle.card_model.specs.Layout.{cardLength, entryBlock, entryByte, entryPlace}
 use Rattle.card_directory.proofs.DirectoryLaws.{entry-part}
 use borrow.Author.Needs.{needs}
 use Rattle.card_directory.proofs.entry.entry_at.Statement.{statement}
@@ -8,6 +8,10 @@ use Rattle.card_directory.proofs.entry.entry_at.Tie as tie
 
 add-at : tie.Need-add-at
 add-at c = search needs
+
+part-result-end : tie.Need-part-result-end
+unfolding cardLength
+part-result-end c = search needs
 
 returns : tie.Need-returns
 unfolding entryPlace entryBlock entryByte
@@ -26,5 +30,5 @@ entry-at-spec =
     (λ c. search needs)
     (λ c. search needs)
     (λ c. search needs)
-    (λ c. search needs)
+    part-result-end
     returns)

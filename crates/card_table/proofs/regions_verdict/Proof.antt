@@ -1,11 +1,11 @@
--- `entries_verdict` meets its contract: the first row that refuses, in order. Assumes nothing.
+-- `regions_verdict` meets its contract: the first row that refuses, in order. Assumes nothing.
 use mathlib.Core.Path.{sym, _∙_}
 use native.Mathlib.Omega.{arith}
 use Rattle.card_model.specs.Layout.{tableOf}
 use Rattle.card_table.proofs.TableLaws.{system-refused, hidden-refused, user-refused, none-refused}
 use borrow.Author.Needs.{needs}
-use Rattle.card_table.proofs.entries_verdict.Statement.{statement}
-use Rattle.card_table.proofs.entries_verdict.Tie as tie
+use Rattle.card_table.proofs.regions_verdict.Statement.{statement}
+use Rattle.card_table.proofs.regions_verdict.Tie as tie
 
 any-wrong-requires : tie.Need-any-wrong-requires
 any-wrong-requires c κs = search needs
@@ -80,8 +80,8 @@ returns-4 c =
     (k .before .any-wrong3 .ensures)
     (k .if3 .left)
 
-pub entries-verdict-spec : {M : Type 1} → statement M
-entries-verdict-spec =
+pub regions-verdict-spec : {M : Type 1} → statement M
+regions-verdict-spec =
     tie.close
     (tie.spec
     any-wrong-requires
