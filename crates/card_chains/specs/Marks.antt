@@ -39,6 +39,10 @@ pub record MarkedFiles (table blocks marks : List ℕ) : Type 0 where
 abbrev pub outcome : Bool → Finding
 outcome shared = cond shared Shared Apart
 
+-- A finding as a number.
+abbrev pub asFinding : ℕ → Finding
+asFinding found = cond (eqb found 0) Apart (cond (eqb found 1) Shared Broken)
+
 abbrev pub isBroken : Finding → Bool
 isBroken Apart = false
 isBroken Shared = false

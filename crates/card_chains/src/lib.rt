@@ -5,7 +5,7 @@ pub mod walking;
 
 use crate::walking::is_broken;
 use crate::walking::is_shared;
-use crate::walking::walk;
+use crate::walking::walk_file;
 use card_directory::entry::entry_at;
 use card_directory::entry::first_block;
 use card_directory::entry::size;
@@ -59,7 +59,7 @@ pub fn walk_files(card: &[u8], used: &[u8; 208], count: usize, marks: &mut [u8; 
     while j < count {
         let i = listed_at(used, j);
         let entry = entry_at(card, i);
-        let found = walk(&table, marks, first_block(entry), size(entry));
+        let found = walk_file(&table, marks, first_block(entry), size(entry));
         if is_broken(found) {
             return refused_at(27, Place::Entry(i));
         }

@@ -10,7 +10,7 @@ ghost use lib.ListN.{length};
 ghost use Rattle.card_model.specs.Layout.{cardLength, tableOf};
 ghost use Rattle.card_model.specs.Files.{chain};
 ghost use Rattle.card_chains.specs.declared.walking.Finding.the-variants.{Broken};
-ghost use Rattle.card_chains.specs.Marks.{isBroken, isShared, Walkable, Walked};
+ghost use Rattle.card_chains.specs.Marks.{Lengths, asFinding, isBroken, isShared, Walkable, Walked};
 ghost use Rattle.card_chains.specs.Steps.{blockAfter};
 
 // What the walk along a chain found: no block that was marked before, one that was, or a bad chain.
@@ -40,42 +40,74 @@ pub(crate) fn is_shared(found: Finding) -> bool
     }
 }
 
+// The same as a number: an enum would come back through memory, and then the compiler doesn't make a loop of the recursion.
+const APART: u8 = 0;
+
+const SHARED: u8 = 1;
+
+const BROKEN: u8 = 2;
+
+fn as_finding(found: u8) -> Finding
+    ensures { λ r. ⌜ r ≡ asFinding found ⌝ }
+{
+    if found == APART {
+        return Finding::Apart;
+    }
+    if found == SHARED {
+        return Finding::Shared;
+    }
+    Finding::Broken
+}
+
 // What a walk answers where it ends.
-fn ended(good: bool, found: Finding) -> Finding
-    ensures { λ r. ⌜ r ≡ cond good found Broken ⌝ }
+fn ended(good: bool, found: u8) -> u8
+    ensures { λ r. ⌜ asFinding r ≡ cond good (asFinding found) Broken ⌝ }
 {
     if good {
         return found;
     }
-    Finding::Broken
+    BROKEN
 }
 
 // From `block` on, with `left` blocks left: the first entries each name the next block, and the last one is FFFA. Each block is
 // marked with what is left where it is tested, and a walk ends where it meets a mark, so no block is tested twice. If an earlier
 // walk made the mark, the chain from there is good, and no chain has two lengths. If this one did, fewer are left now, and it never
 // ends.
-pub(crate) fn walk(table: &[u16; 256], marks: &mut [u8; 200], block: usize, left: usize) -> Finding
+fn walk(table: &[u16; 256], marks: &mut [u8; 200], block: usize, left: usize) -> u8
     requires { ⌜ (block < 200) × (left ≤ 200) ⌝ }
     requires { ⌜ Walkable (now table) (now marks) left block ⌝ }
-    ensures { λ r. ⌜ Walked (now (table .entry)) (chain (now (table .entry)) left block) (now (marks .entry)) r (now (marks .exit)) ⌝ }
+    ensures { λ r. ⌜ Walked (now (table .entry)) (chain (now (table .entry)) left block) (now (marks .entry)) (asFinding r) (now (marks .exit)) ⌝ }
 {
     if left == 0 {
-        return Finding::Broken; // no block is left
+        return BROKEN; // no block is left
     }
     let mark = marks[block];
     let own = left as u8;
     if mark != 0 {
-        return ended(mark == own, Finding::Shared);
+        return ended(mark == own, SHARED);
     }
     marks[block] = own;
     let e = entry_in(table, block);
     match classify(e) {
-        Link::Last => ended(left == 1, Finding::Apart),
+        Link::Last => ended(left == 1, APART),
         Link::Next(n) => walk(table, marks, n, left - 1),
-        Link::Free => Finding::Broken,
-        Link::Damaged => Finding::Broken,
-        Link::Bad => Finding::Broken,
+        Link::Free => BROKEN,
+        Link::Damaged => BROKEN,
+        Link::Bad => BROKEN,
     }
+}
+
+// The walk along a file.
+pub(crate) fn walk_file(
+    table: &[u16; 256],
+    marks: &mut [u8; 200],
+    first: usize,
+    size: usize,
+) -> Finding
+    requires { ⌜ (first < 200) × (size ≤ 200) × Lengths (now table) (now marks) ⌝ }
+    ensures { λ r. ⌜ Walked (now (table .entry)) (chain (now (table .entry)) size first) (now (marks .entry)) r (now (marks .exit)) ⌝ }
+{
+    as_finding(walk(table, marks, first, size))
 }
 
 // The block that `left` steps over this table lead to.

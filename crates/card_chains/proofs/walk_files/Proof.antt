@@ -22,7 +22,6 @@ use Rattle.card_chains.specs.Marks.{Lengths, Marking, isShared}
 use Rattle.card_chains.specs.Rows.{chainRows}
 use Rattle.card_chains.proofs.MarkLaws.{entry-walked, lengths-start, marking-start, files-stay, unused-bad, unused-shares, walk-broken, walk-lengths, walk-shares, walk-marking}
 use Rattle.card_chains.proofs.FirstLaws.{orEnd, firstBefore, before-same, first-next, still-none, first-some, first-none}
-use Rattle.card_chains.proofs.WalkLaws.{walkable}
 use borrow.Author.Needs.{needs}
 use Rattle.card_chains.proofs.walk_files.Statement.{statement}
 use Rattle.card_chains.proofs.walk_files.Tie as tie
@@ -127,14 +126,14 @@ entry-at-requires c κs =
     let l = c .before .before in
     (start l .pre .0 .0, listed-below (list l) (l .loop .j) _ (c .listed-at .ensures) (omega arith))
 
-walk-requires : tie.Need-walk-requires Inv-loop μ-loop
-walk-requires c κs =
+walk-file-requires : tie.Need-walk-file-requires Inv-loop μ-loop
+walk-file-requires c κs =
     let l = turn c in
     let e = c .before .before .before .before .entry-at .ensures .0 in
     let b = c .before .first-block .ensures in
     let n = c .size .ensures in
     let right = right-entry _ (is-used c) (start l .pre .1 .1 _ (listed-below (list l) (l .loop .j) _ (is-entry c) (below c))) in
-    ((rw (b, e) (right .0), rw (n, e) (right .2)), rw (l .before .read-table .ensures) (walkable _ _ _ _ (l .loop .inv .1)))
+    (rw (b, e) (right .0), rw (n, e) (right .2), rw (l .before .read-table .ensures) (l .loop .inv .1))
 
 returns : tie.Need-returns Inv-loop μ-loop
 returns c =
@@ -142,7 +141,7 @@ returns c =
     let w = t .before .before in
     let s = w .before in
     let l = turn s in
-    let walked = entry-walked (l .before .read-table .ensures) (s .before .before .before .before .entry-at .ensures .0) (s .before .first-block .ensures) (s .size .ensures) (w .walk .ensures) in
+    let walked = entry-walked (l .before .read-table .ensures) (s .before .before .before .before .entry-at .ensures .0) (s .before .first-block .ensures) (s .size .ensures) (w .walk-file .ensures) in
     let b = sym (walk-broken _ _ _ (is-used s) walked) ∙ sym (t .before .is-broken .ensures) ∙ t .if1 .taken in
     let v = c .refused-at .ensures in
     (v ∙ chain-refused (card l) _ (l .loop .inv .2 ∙ found-here _ (bad (card l)) (unused-bad _ _) (list l) (l .loop .j) _ (is-entry s) (below s) b), λ e. absurd (false≢true (sym (ap accepted v) ∙ e)))
@@ -159,13 +158,13 @@ loop-again c =
     let h = below s in
     let more : j + 1 ≤ start l .args .count = omega arith in
     let first = l .loop .first in
-    let walked = entry-walked (l .before .read-table .ensures) (s .before .before .before .before .entry-at .ensures .0) (s .before .first-block .ensures) (s .size .ensures) (w .walk .ensures) in
+    let walked = entry-walked (l .before .read-table .ensures) (s .before .before .before .before .entry-at .ensures .0) (s .before .first-block .ensures) (s .size .ensures) (w .walk-file .ensures) in
     let u = is-used s in
     let sound = sym (t .before .is-broken .ensures) ∙ t .if1 .left in
     let good = sym (walk-broken _ _ _ u walked) ∙ sound in
     let m = rw (stays _ (files (card l)) (files-stay _ _) (list l) j i (is-entry s) h) at (l .loop .inv .4) in
     let before = l .loop .inv .3 ∙ ap (orEnd 208) (stays _ (firstBefore (shares (card l))) (λ k q. before-same _ k (unused-shares _ _ k q)) (list l) j i (is-entry s) h) in
-    let f = remembered (c .if2 .first) first i (isShared (w .walk .result))
+    let f = remembered (c .if2 .first) first i (isShared (w .walk-file .result))
     (⊎-elim (λ x. inl (sym (d .is-shared .ensures) ∙ x .0 .taken, x .2 ∙ x .1 .ensures)) (λ x. inr (sym (d .is-shared .ensures) ∙ x .0 .left, x .1)) (c .if2 .came)) in
     let b = listed-below (list l) j i (is-entry s) h in
     let on = reached-next _ j i (is-entry s) in (
@@ -216,7 +215,7 @@ walk-files-spec =
     entry-at-requires
     (λ c κs. search needs)
     (λ c κs. search needs)
-    walk-requires
+    walk-file-requires
     (λ c κs. search needs)
     (λ c κs. search needs)
     returns
