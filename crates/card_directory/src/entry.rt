@@ -108,8 +108,20 @@ pub(crate) fn wrong_entry(entry: &[u8]) -> bool
     requires { ⌜ length (now entry) ≡ 32 ⌝ }
     ensures { λ r. ⌜ r ≡ model.wrongEntry (now (entry .entry)) ⌝ }
 {
-    is_used(entry)
-        & (wrong_kind(entry)
-            | (wrong_flag(entry)
-                | (wrong_first(entry) | (wrong_size(entry) | wrong_offset(entry)))))
+    if !is_used(entry) {
+        return false;
+    }
+    if wrong_kind(entry) {
+        return true;
+    }
+    if wrong_flag(entry) {
+        return true;
+    }
+    if wrong_first(entry) {
+        return true;
+    }
+    if wrong_size(entry) {
+        return true;
+    }
+    wrong_offset(entry)
 }

@@ -1,33 +1,87 @@
--- `wrong_entry` meets its contract: one test beside the other. Assumes nothing.
-use Rattle.card_model.specs.Entries.{wrongEntry}
+-- `wrong_entry` meets its contract: one test after the other. Assumes nothing.
+use Prim.Native.Nat.{ℕ}
+use mathlib.Core.Path.{_≡_, sym, _∙_}
+use mathlib.Core.Bool.{true, false}
+use mathlib.Core.List.{List}
+use borrow.Author.Tests.{not-true, not-false}
+use Rattle.card_model.specs.Entries.{isUsed, wrongKind, wrongFlag, wrongFirst, wrongSize, wrongEntry}
 use borrow.Author.Needs.{needs}
 use Rattle.card_directory.proofs.entry.wrong_entry.Statement.{statement}
 use Rattle.card_directory.proofs.entry.wrong_entry.Tie as tie
 
+-- ---- what each test that was passed tells
+
+abbrev entry : tie.Else1 → List ℕ
+entry c = c .before .before .before .args .entry .now
+
+is-used : (c : tie.Else1) → isUsed (entry c) ≡ true
+is-used c = sym (c .before .is-used .ensures) ∙ not-false _ (c .if1 .left)
+
+right-kind : (c : tie.Else2) → wrongKind (entry (c .before .before)) ≡ false
+right-kind c = sym (c .before .wrong-kind .ensures) ∙ c .if2 .left
+
+right-flag : (c : tie.Else3) → wrongFlag (entry (c .before .before .before .before)) ≡ false
+right-flag c = sym (c .before .wrong-flag .ensures) ∙ c .if3 .left
+
+right-first : (c : tie.Else4) → wrongFirst (entry (c .before .before .before .before .before .before)) ≡ false
+right-first c = sym (c .before .wrong-first .ensures) ∙ c .if4 .left
+
+right-size : (c : tie.Else5) → wrongSize (entry (c .before .before .before .before .before .before .before .before)) ≡ false
+right-size c = sym (c .before .wrong-size .ensures) ∙ c .if5 .left
+
 returns : tie.Need-returns
 unfolding wrongEntry
-returns c =
-    let size = c .before in
-    let first = size .before in
-    let flag = first .before in
-    let kind = flag .before in
-    rw (
-      kind .before .is-used .ensures,
-      kind .wrong-kind .ensures,
-      flag .wrong-flag .ensures,
-      first .wrong-first .ensures,
-      size .wrong-size .ensures,
-      c .wrong-offset .ensures,
-    )
+returns c = rw (sym (c .before .is-used .ensures) ∙ not-true _ (c .if1 .taken))
+
+returns-2 : tie.Need-returns-2
+unfolding wrongEntry
+returns-2 c =
+    let k = c .before in
+    rw (is-used (k .before), sym (k .wrong-kind .ensures) ∙ c .if2 .taken)
+
+returns-3 : tie.Need-returns-3
+unfolding wrongEntry
+returns-3 c =
+    let k = c .before .before in
+    rw (is-used (k .before .before), right-kind k, sym (c .before .wrong-flag .ensures) ∙ c .if3 .taken)
+
+returns-4 : tie.Need-returns-4
+unfolding wrongEntry
+returns-4 c =
+    let f = c .before .before in
+    let k = f .before .before in
+    rw (is-used (k .before .before), right-kind k, right-flag f, sym (c .before .wrong-first .ensures) ∙ c .if4 .taken)
+
+returns-5 : tie.Need-returns-5
+unfolding wrongEntry
+returns-5 c =
+    let b = c .before .before in
+    let f = b .before .before in
+    let k = f .before .before in
+    rw (is-used (k .before .before), right-kind k, right-flag f, right-first b, sym (c .before .wrong-size .ensures) ∙ c .if5 .taken)
+
+returns-6 : tie.Need-returns-6
+unfolding wrongEntry
+returns-6 c =
+    let n = c .before in
+    let b = n .before .before in
+    let f = b .before .before in
+    let k = f .before .before in
+    rw (is-used (k .before .before), right-kind k, right-flag f, right-first b, right-size n, c .wrong-offset .ensures)
 
 pub wrong-entry-spec : {M : Type 1} → statement M
 wrong-entry-spec =
     tie.close
     (tie.spec
     (λ c κs. search needs)
+    returns
     (λ c κs. search needs)
+    returns-2
     (λ c κs. search needs)
+    returns-3
     (λ c κs. search needs)
+    returns-4
     (λ c κs. search needs)
+    returns-5
     (λ c κs. search needs)
-    returns)
+    returns-6)
