@@ -12,6 +12,7 @@ ghost use mathlib.Core.Path.{_≡_};
 ghost use mathlib.Core.Bool.{true};
 ghost use lib.ListN.{length};
 ghost use Rattle.verdicts.specs.Rows.{accepted};
+ghost use Rattle.card_model.specs.Layout.{cardLength};
 ghost use Rattle.card_model.specs.Calls.{verdictOf};
 ghost use Rattle.card_chains.specs.Marks.{noMarks};
 ghost use Rattle.card_check.specs.Door.{OpenCard};
@@ -30,15 +31,12 @@ fn refused(verdict: Verdict) -> Opened
     Opened { verdict, count: 0 }
 }
 
-// Lists the used entries and marks the blocks of the files.
-pub fn open(card: &[u8], used: &mut [u8; 208], marks: &mut [u8; 200]) -> Opened
-    requires { ⌜ (length (now used) ≡ 208) × (now marks ≡ noMarks) ⌝ }
+// Refusals 21 to 30, of a card of the right length.
+fn open_card(card: &[u8], used: &mut [u8; 208], marks: &mut [u8; 200]) -> Opened
+    requires { ⌜ (length (now card) ≡ cardLength) × (length (now used) ≡ 208) × (now marks ≡ noMarks) ⌝ }
     ensures { λ r. ⌜ r .verdict ≡ verdictOf (now (card .entry)) ⌝ }
     ensures { λ r. ⌜ (accepted (r .verdict) ≡ true → OpenCard (now (card .entry)) (now (used .exit)) (r .count) (now (marks .exit))) ⌝ }
 {
-    if card.len() != LENGTH {
-        return refused(refused_at(20, Place::Whole));
-    }
     let of_table = table_verdict(card);
     if of_table.number != 0 {
         return refused(of_table);
@@ -60,4 +58,16 @@ pub fn open(card: &[u8], used: &mut [u8; 208], marks: &mut [u8; 200]) -> Opened
         verdict: game_row(card, used, count),
         count,
     }
+}
+
+// Lists the used entries and marks the blocks of the files. The length is tested before all that asks for it.
+pub fn open(card: &[u8], used: &mut [u8; 208], marks: &mut [u8; 200]) -> Opened
+    requires { ⌜ (length (now used) ≡ 208) × (now marks ≡ noMarks) ⌝ }
+    ensures { λ r. ⌜ r .verdict ≡ verdictOf (now (card .entry)) ⌝ }
+    ensures { λ r. ⌜ (accepted (r .verdict) ≡ true → OpenCard (now (card .entry)) (now (used .exit)) (r .count) (now (marks .exit))) ⌝ }
+{
+    if card.len() != LENGTH {
+        return refused(refused_at(20, Place::Whole));
+    }
+    open_card(card, used, marks)
 }
