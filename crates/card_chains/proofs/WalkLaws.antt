@@ -1,6 +1,6 @@
 -- One step along a chain: what it makes of a walk's answer and marks. Assumes nothing.
 use Prim.Native.Nat.{ℕ, zero, suc, _-_, _≤_, _<_}
-use mathlib.Core.Path.{_≡_, refl, sym, ap, subst, _∙_}
+use mathlib.Core.Path.{_≡_, refl, sym, ap, _∙_}
 use mathlib.Core.Bool.{Bool, true, false, cond, _||_, or-false, false≢true}
 use mathlib.Core.List.{List, [], _∷_}
 use mathlib.Core.Option.{Option, none, some, Option·map}
@@ -11,7 +11,7 @@ use borrow.Author.Tests.{eqb-true, eqb-false, eq-eqb, ne-eqb}
 use Rattle.words.specs.Lists.{anyOf, has, isSome}
 use Rattle.words.proofs.Bools.{or-false-right}
 use Rattle.card_model.specs.declared.Link.{Link}
-use Rattle.card_model.specs.declared.Link.the-variants.{Free, Damaged, Last, Next, Bad}
+use Rattle.card_model.specs.declared.Link.the-variants.{Next}
 use Rattle.card_model.specs.Table.{linkAt}
 use Rattle.card_model.specs.Files.{chainStep, chain}
 use Rattle.card_model.proofs.TableLaws.{next-below}

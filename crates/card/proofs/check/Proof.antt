@@ -4,7 +4,6 @@ use mathlib.Core.List.{List}
 use Prim.Native.Nat.{ℕ}
 use borrow.Author.Tests.{eq-eqb}
 use Rattle.card_chains.specs.Marks.{noMarks}
-use Rattle.card_check.specs.Door.{OpenCard}
 use Rattle.card.proofs.AnswerLaws.{check-refused, check-passed}
 use borrow.Author.Needs.{needs}
 use Rattle.card.proofs.check.Statement.{statement}

@@ -1,7 +1,6 @@
 -- `read_block` meets its contract. Assumes nothing.
 use Prim.Native.Nat.{ℕ, _≤_, _<_}
-use mathlib.Core.Path.{_≡_, sym, subst, ap, _∙_}
-use mathlib.Core.List.{List}
+use mathlib.Core.Path.{sym, subst, ap, _∙_}
 use native.Mathlib.Omega.{arith}
 use Rattle.card_model.specs.Layout.{cardLength, tableOf}
 use Rattle.card_chains.specs.Steps.{blockAfter}

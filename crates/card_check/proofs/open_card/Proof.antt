@@ -1,7 +1,6 @@
 -- `open_card` meets its contract: the rows in their order, each `return` the first that refuses. Assumes nothing.
-use Prim.Native.Nat.{ℕ, _<_}
+use Prim.Native.Nat.{ℕ}
 use mathlib.Core.Path.{_≡_, sym, ap, _∙_}
-use mathlib.Core.Bool.{false}
 use mathlib.Core.List.{List}
 use borrow.Author.Tests.{eq-eqb}
 use Rattle.verdicts.specs.declared.Verdict.{Verdict}
