@@ -11,21 +11,22 @@ use lib.Dec.{eqb, ltb}
 use Rattle.words.specs.Lists.{anyOf, isSome, numbersFrom}
 use Rattle.card_model.specs.declared.Link.{Link}
 use Rattle.card_model.specs.declared.Link.the-variants.{Free, Damaged, Last, Next, Bad}
-use Rattle.card_model.specs.Table.{fatEntry, linkAt}
+use Rattle.card_model.specs.Table.{linkAt}
 use Rattle.card_model.specs.Entries.{kind, firstBlock, size, isUsed, isGame, wrongEntry, entryAt}
 use Rattle.card_model.specs.Files.{chainStep, chain, badChain, orEmpty, fileOf, rising, breaksGameRule}
-use Rattle.card_model.proofs.TableLaws.{next-is}
 use Rattle.card_model.proofs.ChainLaws.{chain-head}
 use Rattle.card_model.proofs.EntryLaws.{right-entry, file-chain}
 
 module _ (table : List ℕ) where
   -- the chain goes on at the block that the entry names, and rises if that is the block above and the rest rises
   pub record GoesOn (left b : ℕ) : Type 0 where
-    pub there : isSome (chain table (left - 1) (fatEntry table b)) ≡ true
-    pub rises : rising (orEmpty (chain table left b)) ≡ (eqb (fatEntry table b) (b + 1) && rising (orEmpty (chain table (left - 1) (fatEntry table b))))
+    pub next : ℕ
+    pub link-is : linkAt table b ≡ Next next
+    pub there : isSome (chain table (left - 1) next) ≡ true
+    pub rises : rising (orEmpty (chain table left b)) ≡ (eqb next (b + 1) && rising (orEmpty (chain table (left - 1) next)))
 
   pub goes-on : (left b : ℕ) → 1 < left → isSome (chain table left b) ≡ true → GoesOn left b
-  unfolding chain chainStep linkAt
+  unfolding chain chainStep
   goes-on zero b h s = absurd (omega arith)
   goes-on (suc zero) b h s = absurd (omega arith)
   goes-on (suc (suc k)) b h s = go (linkAt table b) refl s
@@ -41,9 +42,8 @@ module _ (table : List ℕ) where
       go Bad q s = absurd (false≢true s)
       go Last q s = absurd (false≢true (rw (ne-eqb (suc k) 0 (λ d. omega arith)) at s))
       go (Next n) q s =
-          let e : fatEntry table b ≡ n = next-is (fatEntry table b) n q .0 in
           let r = rest n (chain table (suc k) n) refl s in
-          record { there = rw (sub-one (suc (suc k)), e) (r .0); rises = rw (q, sub-one (suc (suc k)), e) (r .1) }
+          record { next = n; link-is = q; there = rw (sub-one (suc (suc k))) (r .0); rises = rw (q, sub-one (suc (suc k))) (r .1) }
 
   -- at its last block there is nothing to rise
   pub ends : (left b : ℕ) → left ≤ 1 → isSome (chain table left b) ≡ true → rising (orEmpty (chain table left b)) ≡ true

@@ -4,6 +4,8 @@ use card_directory::entry::first_block;
 use card_directory::entry::is_game;
 use card_directory::entry::size;
 use card_directory::used::listed_at;
+use card_model::Link;
+use card_table::classify;
 use card_table::fat_entry;
 use verdicts::Place;
 use verdicts::Verdict;
@@ -17,7 +19,7 @@ ghost use Rattle.words.specs.Lists.{anyOf, isSome, numbersFrom};
 ghost use Rattle.card_model.specs.Layout.{cardLength, tableOf, directoryOf};
 ghost use Rattle.card_model.specs.Entries as model;
 ghost use Rattle.card_model.specs.Files.{chain, orEmpty, rising, breaksGameRule, gameRow};
-ghost use Rattle.card_games.specs.Rules.{GoodChains};
+ghost use Rattle.card_games.specs.Rules.{GoodChains, leadsTo};
 ghost use Rattle.card_directory.specs.Listed.{Listed};
 
 // Whether an entry before i is a game.
@@ -35,20 +37,33 @@ fn game_before(card: &[u8], i: usize) -> bool
     false
 }
 
-// Whether each block of the chain from block 0 is followed by the one above it. The loop has no way out, so that it is compiled to
-// steps of several blocks.
+// Whether an entry of this class leads to block n.
+fn leads_to(link: Link, n: usize) -> bool
+    ensures { λ r. ⌜ r ≡ leadsTo link n ⌝ }
+{
+    match link {
+        Link::Next(next) => next == n,
+        Link::Last => false,
+        Link::Free => false,
+        Link::Damaged => false,
+        Link::Bad => false,
+    }
+}
+
+// Whether each block of the chain from block 0 leads to the one above it.
 fn rises(card: &[u8], blocks: usize) -> bool
     requires { ⌜ (length (now card) ≡ cardLength) × (blocks ≤ 200) ⌝ }
     requires { ⌜ isSome (chain (tableOf (now card)) blocks 0) ≡ true ⌝ }
     ensures { λ r. ⌜ r ≡ rising (orEmpty (chain (tableOf (now (card .entry))) blocks 0)) ⌝ }
 {
-    let mut good = true;
     let mut b = 0;
     while b + 1 < blocks {
-        good = good & (fat_entry(card, b) == b + 1);
+        if !leads_to(classify(fat_entry(card, b)), b + 1) {
+            return false;
+        }
         b += 1;
     }
-    good
+    true
 }
 
 fn breaks_game_rule(card: &[u8], i: usize) -> bool
