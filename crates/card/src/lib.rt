@@ -1,6 +1,6 @@
 // Memory cards of 128 KiB: check, list and read, on a card lent by the caller.
 //
-// Every call begins at the door (`card_check::open`) and answers its verdict: number 0 when it is done, else the refusal's number
+// Every call begins by opening the card (`card_check::open`) and answers a verdict: number 0 when it is done, else the refusal's number
 // and place, and then nothing has changed. No call asks anything of what it is lent.
 use card_chains::count_orphans;
 use card_chains::walking::block_after;

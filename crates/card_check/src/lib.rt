@@ -1,9 +1,10 @@
-// The door to a card: refusals 20 to 30 are made here and nowhere else. Every call begins with it.
+// Opening a card: every call begins with it, and refusals 20 to 30 are made here and nowhere else.
 use card_chains::walk_files;
 use card_directory::used::entry_row;
 use card_directory::used::list_used;
 use card_games::game_row;
 use card_names::name_row;
+use card_table::LENGTH;
 use card_table::table_verdict;
 use verdicts::Place;
 use verdicts::Verdict;
@@ -15,11 +16,9 @@ ghost use Rattle.verdicts.specs.Rows.{accepted};
 ghost use Rattle.card_model.specs.Layout.{cardLength};
 ghost use Rattle.card_model.specs.Calls.{verdictOf};
 ghost use Rattle.card_chains.specs.Marks.{noMarks};
-ghost use Rattle.card_check.specs.Door.{OpenCard};
+ghost use Rattle.card_check.specs.Opening.{OpenCard};
 
-const LENGTH: usize = 131072;
-
-// The check's verdict, and how many entries are used; 0 where the card is refused.
+// The check's verdict and, where it accepts the card, how many entries are used.
 pub struct Opened {
     pub verdict: Verdict,
     pub count: usize,

@@ -22,7 +22,6 @@ use Rattle.card_directory.specs.Found.{asFound}
 -- an entry's bytes as the part that a function takes out, whose place its fitting names
 pub entry-part : (card : List ℕ) (i : ℕ) {w : Width} {at : ℕ} → Fits w at → length card ≡ cardLength → i < 208 → entryPlace i ≡ at
     → (take (at + 32 - at) (drop at card) ≡ entryAt (directoryOf card) i) × (length (take (at + 32 - at) (drop at card)) ≡ 32)
-unfolding cardLength
 entry-part card i {at = at} fits long b e =
     let part = ap (λ (n : ℕ). take n (drop at card)) (add-sub-cancel-left at 32) ∙ ap (λ (p : ℕ). take 32 (drop p card)) (sym e) ∙ sym (entry-is card i b) in
     (part, ap length part ∙ entry-length card i long b)

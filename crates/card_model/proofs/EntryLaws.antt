@@ -13,7 +13,7 @@ use Rattle.words.specs.Lists.{concat, isSome, numbersFrom}
 use Rattle.words.proofs.Bools.{or-false-left, or-false-right, and-true-left, and-true-right}
 use Rattle.words.proofs.ListLaws.{map-snoc, range-at}
 use Rattle.words.proofs.JoinLaws.{concat-snoc}
-use Rattle.card_model.specs.Layout.{entryBlock, entryByte, entryPlace, directoryOf}
+use Rattle.card_model.specs.Layout.{cardLength, entryBlock, entryByte, entryPlace, directoryOf}
 use Rattle.card_model.specs.Entries.{firstBlock, size, isUsed, wrongKind, wrongFlag, wrongFirst, wrongSize, wrongOffset, wrongEntry, entryAt}
 use Rattle.card_model.specs.Files.{chain, chainOf, badChain, orEmpty, fileOf, filesBefore}
 
@@ -21,8 +21,8 @@ pub entry-is : (card : List ℕ) (i : ℕ) → i < 208 → entryAt (directoryOf 
 unfolding entryAt directoryOf
 entry-is card i h = range-at (λ j. take 32 (drop (entryPlace j) card)) 0 208 i [] h ∙ ap (λ (j : ℕ). take 32 (drop (entryPlace j) card)) (omega arith)
 
-pub entry-length : (card : List ℕ) (i : ℕ) → length card ≡ 131072 → i < 208 → length (entryAt (directoryOf card) i) ≡ 32
-unfolding entryPlace entryBlock entryByte
+pub entry-length : (card : List ℕ) (i : ℕ) → length card ≡ cardLength → i < 208 → length (entryAt (directoryOf card) i) ≡ 32
+unfolding cardLength entryPlace entryBlock entryByte
 entry-length card i e h =
     let after = drop (entryPlace i) card in
     rw (entry-is card i h) (length-take-le 32 after (omega (arith, length-drop (entryPlace i) card)))

@@ -52,7 +52,7 @@ unfolding blockAt cardLength
 block-length card b e h = length-take-le 512 (drop (b * 512) card) (omega (arith, length-drop (b * 512) card))
 
 name-length : (card : List ℕ) (i : ℕ) → length card ≡ cardLength → i < 208 → length (nameOf (entryOn card i)) ≡ 12
-unfolding nameOf cardLength
+unfolding nameOf
 name-length card i e h =
     let entry = entryOn card i in
     length-take-le 12 (drop 0x04 entry) (omega (arith, length-drop 0x04 entry, entry-length card i e h))

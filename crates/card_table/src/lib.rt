@@ -19,7 +19,8 @@ ghost use Rattle.card_model.specs.Table.{magicRow, fieldsRow, rightFields, fatE
 ghost use Rattle.card_model.specs.Calls.{tableRows};
 ghost use Rattle.card_table.specs.Regions.{wrongIn, Ready, regionRows};
 
-const LENGTH: usize = 131072;
+// The bytes of a card.
+pub const LENGTH: usize = 131072;
 
 const ROOT: usize = 130560;
 

@@ -9,7 +9,7 @@ use Rattle.card_model.specs.Layout.{directoryOf}
 use Rattle.card_model.specs.Calls.{entryNamed, readVerdict, readBuffer}
 use Rattle.card_directory.proofs.DirectoryLaws.{found-some, found-none}
 use Rattle.card_chains.specs.Marks.{noMarks}
-use Rattle.card_check.specs.Door.{OpenCard}
+use Rattle.card_check.specs.Opening.{OpenCard}
 use Rattle.card.proofs.AnswerLaws.{read-refused, read-passed}
 use Rattle.card.proofs.ReadLaws.{ReadAs, named-used, wrong-name, wrong-block, no-file, of-entry}
 use borrow.Author.Needs.{needs}
@@ -42,8 +42,8 @@ index c = start (opened c) .args .index
 abbrev buffer : tie.Else1 → List ℕ
 buffer c = start (opened c) .args .block .now
 
-door : (c : tie.Else1) → OpenCard (card c) (opened c .«open» .last .1 .0) (opened c .«open» .result .count) (opened c .«open» .last .1 .1 .0)
-door c = opened c .«open» .ensures .1 (eq-eqb _ _ (c .if1 .left))
+open-card : (c : tie.Else1) → OpenCard (card c) (opened c .«open» .last .1 .0) (opened c .«open» .result .count) (opened c .«open» .last .1 .1 .0)
+open-card c = opened c .«open» .ensures .1 (eq-eqb _ _ (c .if1 .left))
 
 -- what the rest of a read answers and leaves, the read does
 answered : (c : tie.Else1) {r : Verdict} {left : List ℕ} → ReadAs (card c) (name c) (index c) (buffer c) r left
@@ -74,7 +74,7 @@ returns-3 c =
 find-named-requires : tie.Need-find-named-requires
 find-named-requires c κs =
     let d = accepted (c .before) in
-    (door d .rows .long, door d .listed)
+    (open-card d .rows .long, open-card d .listed)
 
 returns-4 : tie.Need-returns-4
 returns-4 c =
@@ -90,7 +90,7 @@ read-block-requires : tie.Need-read-block-requires
 read-block-requires c κs =
     let i = c .before .before in
     let m = measured (i .before .before) in
-    (door (accepted m) .rows, named-used _ _ _ (named i), m .if3 .left)
+    (open-card (accepted m) .rows, named-used _ _ _ (named i), m .if3 .left)
 
 returns-5 : tie.Need-returns-5
 returns-5 c =

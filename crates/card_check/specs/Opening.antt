@@ -1,4 +1,4 @@
--- What a call has behind the door.
+-- What a call knows of a card that it has opened.
 -- Assumes nothing.
 use Prim.Native.Nat.{ℕ}
 use mathlib.Core.List.{List}
