@@ -2,25 +2,14 @@
 
 use std::hint::black_box;
 
-use fastest::card as fastest;
 use galtuyeg::raw;
 use independent::card as independent;
-use independent::{Entry, Refusal};
 use inputs::card::{Name, BLOCK};
 
 use crate::cards::Sample;
 use crate::row::{Job, Restored, Row};
 
 const NOTHING_LEFT: u32 = 31;
-
-/// The calls of the simple implementation and of the best one.
-const CHECKS: [CheckCall; 2] = [independent::check, fastest::check];
-const LISTS: [ListCall; 2] = [independent::list, fastest::list];
-const READS: [ReadCall; 2] = [independent::read, fastest::read];
-
-type CheckCall = fn(&[u8]) -> Result<u64, Refusal>;
-type ListCall = fn(&[u8], u64) -> Result<Entry, Refusal>;
-type ReadCall = fn(&[u8], &[u8], u64, &mut [u8]) -> Result<(), Refusal>;
 
 /// Sound cards, then refused ones.
 pub fn samples() -> Vec<Sample> {
@@ -61,7 +50,7 @@ fn check(sample: &Sample) -> Row<'_> {
     let image = &sample.card.bytes[..];
     Job { answer: sample.code, ..job("card check", sample, vec![()], ()) }.row(
         |_, ()| raw::card_check(black_box(image)),
-        CHECKS.map(|check| move |_: &mut (), _: &()| check(black_box(image))),
+        [|_: &mut (), _: &()| independent::check(black_box(image))],
     )
 }
 
@@ -81,7 +70,7 @@ fn list(sample: &Sample) -> Row<'_> {
     let walk = job("card list, a walk", sample, starts(image), ());
     Job { answer: NOTHING_LEFT, ..walk }.row(
         |_, &from| raw::card_list(black_box(image), from),
-        LISTS.map(|list| move |_: &mut (), &from: &u64| list(black_box(image), from)),
+        [|_: &mut (), &from: &u64| independent::list(black_box(image), from)],
     )
 }
 
@@ -93,10 +82,8 @@ fn read(sample: &Sample) -> Row<'_> {
         files.flat_map(|(name, size)| (0..size).map(move |index| (name, index))).collect();
     job("card read", sample, blocks, [0; BLOCK]).row(
         |block, (name, index)| raw::card_read(black_box(image), name, *index, block),
-        READS.map(|read| {
-            move |block: &mut [u8; BLOCK], (name, index): &(Name, u64)| {
-                read(black_box(image), name, *index, block)
-            }
-        }),
+        [|block: &mut [u8; BLOCK], (name, index): &(Name, u64)| {
+            independent::read(black_box(image), name, *index, block)
+        }],
     )
 }

@@ -1,5 +1,5 @@
-//! Times the proved library, through its C interface, a simple implementation and the best one that plain
-//! Rust has, on the same inputs.
+//! Times the proved library, through its C interface, a simple implementation and, but for cards, the best
+//! one that plain Rust has, on the same inputs.
 
 mod args;
 mod card_rows;
@@ -19,10 +19,10 @@ use args::{Args, Asked};
 
 const LEGEND: &str = "\
 Ours is the proved library, called from Rust through its C interface; simple is `rust/independent`, for the checksum a table of
-256 numbers; best is `rust/fastest`. A ratio is the median of the rounds' ratios, with the 10th and the 90th percentile. In each
-round all three are timed over passes of the same calls and on the same memory, in rotating order. Nanoseconds are medians for
-one call; in a walk that is one of its calls. Before the timing each call was made once on all sides: answers and bytes were the
-same.
+256 numbers; best is `rust/fastest`; cards have no best. A ratio is the median of the rounds' ratios, with the 10th and the
+90th percentile. In each round all sides are timed over passes of the same calls and on the same memory, in rotating order.
+Nanoseconds are medians for one call; in a walk that is one of its calls. Before the timing each call was made once on all
+sides: answers and bytes were the same.
 
 Page and block buffers are filled with zeros before each timing. Images that a call writes to are restored from a master copy
 before every call: `untimed`, the whole image, between two timings; `timed`, inside the timing and for all alike, the block and

@@ -26,20 +26,16 @@ impl Contestant<'_> {
     }
 }
 
-/// Each round's nanoseconds for one call of each contestant. `least` is what one timing takes at least.
+/// Each contestant's nanoseconds for one call, round by round. `least` is what one timing takes at least.
 /// Each contestant has as many passes as that takes it: were the slower one's timings longer, other work
 /// on the machine would fall on it more often.
-pub fn measure<const N: usize>(
-    contestants: [&Contestant; N],
-    rounds: usize,
-    least: Duration,
-) -> Vec<[f64; N]> {
-    let passes = contestants.map(|contestant| contestant.passes(least));
-    let mut measured = vec![[0.0; N]; rounds];
-    for (round, times) in measured.iter_mut().enumerate() {
-        for turn in 0..N {
-            let who = (round + turn) % N;
-            times[who] = contestants[who].per_call(passes[who]);
+pub fn measure(contestants: &[&Contestant], rounds: usize, least: Duration) -> Vec<Vec<f64>> {
+    let passes: Vec<usize> = contestants.iter().map(|who| who.passes(least)).collect();
+    let mut measured = vec![Vec::new(); contestants.len()];
+    for round in 0..rounds {
+        for turn in 0..contestants.len() {
+            let who = (round + turn) % contestants.len();
+            measured[who].push(contestants[who].per_call(passes[who]));
         }
     }
     measured
@@ -86,7 +82,7 @@ mod tests {
                 }
             }),
         });
-        let measured = measure([&each[0], &each[1], &each[2]], 3, Duration::from_micros(4));
+        let measured = measure(&each.each_ref(), 3, Duration::from_micros(4));
         assert_eq!(measured, [[1e3; 3]; 3]);
         let asked = order.borrow();
         assert_eq!(asked[asked.len() - 9..], [1, 2, 4, 2, 4, 1, 4, 1, 2]);

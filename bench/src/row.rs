@@ -28,8 +28,8 @@ pub struct Row<'a> {
     pub on: String,
     pub restored: Restored,
     pub ours: Contestant<'a>,
-    pub simple: Contestant<'a>,
-    pub best: Contestant<'a>,
+    /// The simple side and, where there is one, the best.
+    pub theirs: Vec<Contestant<'a>>,
 }
 
 /// What all sides are given.
@@ -51,17 +51,16 @@ where
     S: Clone + PartialEq,
 {
     /// Makes each call once on all sides: answers and bytes must be the same.
-    pub fn row<'a, T: Answer>(
+    pub fn row<'a, T: Answer, const N: usize>(
         self,
         ours: impl Fn(&mut S, &I) -> T::Raw + 'a,
-        [simple, best]: [impl Fn(&mut S, &I) -> T + 'a; 2],
+        theirs: [impl Fn(&mut S, &I) -> T + 'a; N],
     ) -> Row<'a>
     where
         I: 'a,
         S: 'a,
     {
-        let left = self.agree(&ours, &simple);
-        assert!(self.agree(&ours, &best) == left);
+        let left = self.agree(&ours, &theirs);
         let (call, kib, on, restored) = (self.call, self.kib, self.on.clone(), self.restored);
         let state = RefCell::new(self.fresh.clone());
         let bench = Rc::new(Bench { job: self, left, state });
@@ -71,8 +70,7 @@ where
             on,
             restored,
             ours: contestant(&bench, ours),
-            simple: contestant(&bench, simple),
-            best: contestant(&bench, best),
+            theirs: theirs.map(|call| contestant(&bench, call)).into(),
         }
     }
 
@@ -80,18 +78,21 @@ where
     fn agree<T: Answer>(
         &self,
         ours: &impl Fn(&mut S, &I) -> T::Raw,
-        theirs: &impl Fn(&mut S, &I) -> T,
+        theirs: &[impl Fn(&mut S, &I) -> T],
     ) -> S {
         let mut left = self.fresh.clone();
         for (at, input) in self.inputs.iter().enumerate() {
             let (call, on) = (self.call, &self.on);
             left.clone_from(&self.fresh);
-            let mut other = self.fresh.clone();
-            let (ours, theirs) = (ours(&mut left, input), theirs(&mut other, input));
+            let ours = ours(&mut left, input);
             let answer = if at + 1 == self.inputs.len() { self.answer } else { 0 };
-            assert_eq!(theirs.number(), answer, "{call}, {on}: not the answer to input {at}");
-            assert!(ours == theirs.raw(), "{call}, {on}: the answers to input {at} differ");
-            assert!(left == other, "{call}, {on}: the bytes left by input {at} differ");
+            for theirs in theirs {
+                let mut other = self.fresh.clone();
+                let theirs = theirs(&mut other, input);
+                assert_eq!(theirs.number(), answer, "{call}, {on}: not the answer to input {at}");
+                assert!(ours == theirs.raw(), "{call}, {on}: the answers to input {at} differ");
+                assert!(left == other, "{call}, {on}: the bytes left by input {at} differ");
+            }
         }
         left
     }

@@ -1,23 +1,22 @@
-//! The card calls, each made on all sides and compared.
+//! The card calls, each made by the proved library and by `independent`, and compared.
 
-use fastest::card as fastest;
 use galtuyeg::{card, raw};
 use independent::card as independent;
 use inputs::answers::{checked, no_entry, Answer, DONE};
 
-use crate::lent::Lent;
+use crate::lent;
 use crate::round::Round;
 use crate::tally::Call;
 
+/// A buffer that is lent to one other side, `independent`: `fastest` has no card calls.
+pub type Lent = lent::Lent<1>;
+
 pub fn check(round: &mut Round, image: &mut Lent) {
     let proved = raw::card_check(image.proved.get());
-    let others = [
-        independent::check(image.independent.get()).raw(),
-        fastest::check(image.fastest.get()).raw(),
-    ];
+    let other = independent::check(image.others[0].get()).raw();
     let mut case = round.compare(Call::CardCheck, String::new());
     case.answered(proved.code);
-    case.same("check", proved, others);
+    case.same("check", proved, [other]);
     if case.wants_typed() {
         let typed = match card::check(image.proved.get()) {
             Ok(sound) => checked(DONE, sound.orphans.into()),
@@ -31,13 +30,10 @@ pub fn check(round: &mut Round, image: &mut Lent) {
 /// The entry found, if the card is sound and has one.
 pub fn list(round: &mut Round, image: &mut Lent, from: u64) -> Option<u64> {
     let proved = raw::card_list(image.proved.get(), from);
-    let others = [
-        independent::list(image.independent.get(), from).raw(),
-        fastest::list(image.fastest.get(), from).raw(),
-    ];
+    let other = independent::list(image.others[0].get(), from).raw();
     let mut case = round.compare(Call::CardList, format!("from {from}"));
     case.answered(proved.code);
-    case.same("entry", proved, others);
+    case.same("entry", proved, [other]);
     if case.wants_typed() {
         let typed = match card::list(image.proved.get(), from) {
             Ok(Some(entry)) => typed_entry(&entry),
@@ -58,29 +54,21 @@ pub struct Read<'a> {
 }
 
 pub fn read(round: &mut Round, image: &mut Lent, asked: &Read) {
-    let mut name = round.lend(asked.name);
-    let mut block = round.lend(asked.block);
+    let mut name: Lent = round.lend(asked.name);
+    let mut block: Lent = round.lend(asked.block);
     let proved =
         raw::card_read(image.proved.get(), name.proved.get(), asked.index, block.proved.get_mut());
-    let others = [
-        independent::read(
-            image.independent.get(),
-            name.independent.get(),
-            asked.index,
-            block.independent.get_mut(),
-        ),
-        fastest::read(
-            image.fastest.get(),
-            name.fastest.get(),
-            asked.index,
-            block.fastest.get_mut(),
-        ),
-    ];
+    let other = independent::read(
+        image.others[0].get(),
+        name.others[0].get(),
+        asked.index,
+        block.others[0].get_mut(),
+    );
     let (bytes, index, length) = (asked.name, asked.index, asked.block.len());
     let text = format!("name {bytes:02x?} index {index} block of {length}");
     let mut case = round.compare(Call::CardRead, text);
     case.answered(proved.code);
-    case.same("verdict", proved, others.map(Answer::raw));
+    case.same("verdict", proved, [other.raw()]);
     if case.wants_typed() {
         if let Some(typed) = typed_read(image.proved.get(), asked) {
             case.typed(typed, (proved, block.proved.get().to_vec()));

@@ -4,9 +4,8 @@ use inputs::card::{Card, BLOCK, CARD};
 use inputs::Prng;
 
 use crate::card_builder::{build, Shape};
-use crate::card_compare::{self as compare, Read};
+use crate::card_compare::{self as compare, Lent, Read};
 use crate::card_damage::{aim, stray_bit, TARGETS};
-use crate::lent::Lent;
 use crate::round::Round;
 
 /// Sound cards: all entries listed, blocks read, and reads that are refused.

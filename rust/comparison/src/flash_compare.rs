@@ -12,8 +12,8 @@ use crate::tally::Call;
 pub fn check(round: &mut Round, image: &mut Lent, partition: u8) -> u32 {
     let proved = raw::flash_check(image.proved.get(), partition);
     let others = [
-        independent::check(image.independent.get(), partition),
-        fastest::check(image.fastest.get(), partition),
+        independent::check(image.others[0].get(), partition),
+        fastest::check(image.others[1].get(), partition),
     ];
     let mut case = round.compare(Call::FlashCheck, format!("partition {partition}"));
     case.answered(proved.into());
@@ -29,8 +29,8 @@ pub fn check(round: &mut Round, image: &mut Lent, partition: u8) -> u32 {
 pub fn report(round: &mut Round, image: &mut Lent, partition: u8) {
     let proved = raw::flash_report(image.proved.get(), partition);
     let others = [
-        independent::report(image.independent.get(), partition).raw(),
-        fastest::report(image.fastest.get(), partition).raw(),
+        independent::report(image.others[0].get(), partition).raw(),
+        fastest::report(image.others[1].get(), partition).raw(),
     ];
     let mut case = round.compare(Call::FlashReport, format!("partition {partition}"));
     case.answered(proved.code);
@@ -54,8 +54,8 @@ pub fn report(round: &mut Round, image: &mut Lent, partition: u8) {
 pub fn next_live(round: &mut Round, image: &mut Lent, partition: u8, from: u64) -> Option<u64> {
     let proved = raw::flash_next_live(image.proved.get(), partition, from);
     let others = [
-        independent::next_live(image.independent.get(), partition, from).raw(),
-        fastest::next_live(image.fastest.get(), partition, from).raw(),
+        independent::next_live(image.others[0].get(), partition, from).raw(),
+        fastest::next_live(image.others[1].get(), partition, from).raw(),
     ];
     let asked = format!("partition {partition} from {from}");
     let mut case = round.compare(Call::FlashNextLive, asked);
@@ -81,11 +81,11 @@ pub fn read(
     number: u64,
     page: &[u8],
 ) -> (u32, Vec<u8>) {
-    let mut page = round.lend(page);
+    let mut page: Lent = round.lend(page);
     let proved = raw::flash_read(image.proved.get(), partition, number, page.proved.get_mut());
     let others = [
-        independent::read(image.independent.get(), partition, number, page.independent.get_mut()),
-        fastest::read(image.fastest.get(), partition, number, page.fastest.get_mut()),
+        independent::read(image.others[0].get(), partition, number, page.others[0].get_mut()),
+        fastest::read(image.others[1].get(), partition, number, page.others[1].get_mut()),
     ];
     let length = page.before().len();
     let asked = format!("partition {partition} number {number} page of {length}");
@@ -114,8 +114,8 @@ pub struct Save<'a> {
 
 pub fn save(round: &mut Round, image: &mut Lent, asked: &Save) -> u32 {
     let Save { partition, number, .. } = *asked;
-    let mut expected = round.lend(asked.expected);
-    let mut page = round.lend(asked.page);
+    let mut expected: Lent = round.lend(asked.expected);
+    let mut page: Lent = round.lend(asked.page);
     let proved = raw::flash_save(
         image.proved.get_mut(),
         partition,
@@ -125,18 +125,18 @@ pub fn save(round: &mut Round, image: &mut Lent, asked: &Save) -> u32 {
     );
     let others = [
         independent::save(
-            image.independent.get_mut(),
+            image.others[0].get_mut(),
             partition,
             number,
-            expected.independent.get(),
-            page.independent.get(),
+            expected.others[0].get(),
+            page.others[0].get(),
         ),
         fastest::save(
-            image.fastest.get_mut(),
+            image.others[1].get_mut(),
             partition,
             number,
-            expected.fastest.get(),
-            page.fastest.get(),
+            expected.others[1].get(),
+            page.others[1].get(),
         ),
     ];
     let lengths = (asked.expected.len(), asked.page.len());
@@ -158,8 +158,8 @@ pub fn save(round: &mut Round, image: &mut Lent, asked: &Save) -> u32 {
 pub fn erase(round: &mut Round, image: &mut Lent, partition: u8) -> u32 {
     let proved = raw::flash_erase(image.proved.get_mut(), partition);
     let others = [
-        independent::erase(image.independent.get_mut(), partition),
-        fastest::erase(image.fastest.get_mut(), partition),
+        independent::erase(image.others[0].get_mut(), partition),
+        fastest::erase(image.others[1].get_mut(), partition),
     ];
     let mut case = round.compare(Call::FlashErase, format!("partition {partition}"));
     case.answered(proved.into());

@@ -1,5 +1,6 @@
 //! Buffers as they are lent: with guard bytes on both sides, at any alignment, a copy for each side.
 
+use std::array;
 use std::hint::black_box;
 
 use inputs::Prng;
@@ -10,7 +11,6 @@ const GUARD: usize = 64;
 pub const OTHERS: [&str; 2] = ["independent", "fastest"];
 
 /// A buffer between guard bytes.
-#[derive(Clone)]
 pub struct Guarded {
     bytes: Vec<u8>,
     start: usize,
@@ -60,21 +60,21 @@ fn pattern(at: usize) -> u8 {
     (at as u8).wrapping_mul(151) ^ 0x5b
 }
 
-/// One buffer as the sides are lent it: a copy each, and what it held before the call.
-pub struct Lent {
+/// One buffer as the sides are lent it: a copy each, and what it held before the call. Beside the proved
+/// library it is lent to the first `N` of [`OTHERS`].
+pub struct Lent<const N: usize = { OTHERS.len() }> {
     pub proved: Guarded,
-    pub independent: Guarded,
-    pub fastest: Guarded,
+    pub others: [Guarded; N],
     before: Vec<u8>,
 }
 
-impl Lent {
-    pub fn new(content: &[u8], bare: bool, prng: &mut Prng) -> Lent {
+impl<const N: usize> Lent<N> {
+    pub fn new(content: &[u8], bare: bool, prng: &mut Prng) -> Lent<N> {
         let guard = if bare { 0 } else { GUARD };
         let proved = Guarded::new(content, guard, shift(bare, prng));
-        let independent = Guarded::new(content, guard, shift(bare, prng));
-        let fastest = independent.clone();
-        Lent { proved, independent, fastest, before: content.to_vec() }
+        let shift = shift(bare, prng);
+        let others = array::from_fn(|_| Guarded::new(content, guard, shift));
+        Lent { proved, others, before: content.to_vec() }
     }
 
     pub fn before(&self) -> &[u8] {
@@ -85,12 +85,11 @@ impl Lent {
     /// with what it held, else the proved library's copy with the others'.
     pub fn fault(&mut self, may_change: bool) -> Option<String> {
         // A call that was lent the buffer shared may have written it all the same.
-        let Lent { proved, independent, fastest, before } = self;
-        black_box([&mut proved.bytes, &mut independent.bytes, &mut fastest.bytes]);
+        let Lent { proved, others, before } = black_box(self);
         if let Some(at) = proved.broken_guard() {
             return Some(format!("the proved library wrote outside, at {at}"));
         }
-        for (name, other) in OTHERS.iter().zip([independent, fastest]) {
+        for (name, other) in OTHERS.iter().zip(others) {
             if let Some(at) = other.broken_guard() {
                 return Some(format!("{name} wrote outside, at {at}"));
             }
@@ -106,7 +105,7 @@ impl Lent {
     /// on from the proved library's, so that one fault is not reported again and again.
     pub fn settle(&mut self) {
         self.before.copy_from_slice(self.proved.get());
-        for other in [&mut self.independent, &mut self.fastest] {
+        for other in &mut self.others {
             other.get_mut().copy_from_slice(&self.before);
         }
     }
@@ -151,9 +150,9 @@ mod tests {
         let (mut bare, mut guarded) = (Prng::new(1, 1), Prng::new(1, 1));
         for length in 0..100 {
             let content = vec![7; length];
-            let lent = Lent::new(&content, true, &mut bare);
-            Lent::new(&content, false, &mut guarded);
-            for side in [&lent.proved, &lent.independent, &lent.fastest] {
+            let lent: Lent = Lent::new(&content, true, &mut bare);
+            let _: Lent = Lent::new(&content, false, &mut guarded);
+            for side in [&lent.proved, &lent.others[0], &lent.others[1]] {
                 assert_eq!((side.start, side.end), (0, side.bytes.capacity()));
             }
         }
@@ -165,7 +164,7 @@ mod tests {
         let mut buffer = lent();
         assert_eq!(buffer.fault(false), None);
         let sides: [fn(&mut Lent) -> &mut Guarded; 3] =
-            [|lent| &mut lent.proved, |lent| &mut lent.independent, |lent| &mut lent.fastest];
+            [|lent| &mut lent.proved, |lent| &mut lent.others[0], |lent| &mut lent.others[1]];
         for side in sides {
             side(&mut buffer).get_mut()[59] ^= 8;
             assert!(buffer.fault(true).unwrap().contains("from byte 59"));
@@ -177,8 +176,9 @@ mod tests {
     #[test]
     fn a_change_on_all_sides_is_seen_where_none_may_be() {
         let mut buffer = lent();
-        for side in [&mut buffer.proved, &mut buffer.independent, &mut buffer.fastest] {
-            side.get_mut()[0] = 8;
+        buffer.proved.get_mut()[0] = 8;
+        for other in &mut buffer.others {
+            other.get_mut()[0] = 8;
         }
         assert_eq!(buffer.fault(true), None);
         assert!(buffer.fault(false).unwrap().contains("changed"));

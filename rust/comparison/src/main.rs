@@ -1,5 +1,5 @@
-//! Runs the proved library, the independent implementation and the fastest one on the same inputs and
-//! compares every answer, every value and every byte of every buffer.
+//! Runs the proved library, the independent implementation and, for partitions, the fastest one on the same
+//! inputs and compares every answer, every value and every byte of every buffer.
 
 mod args;
 mod card_builder;

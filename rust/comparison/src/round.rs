@@ -24,18 +24,18 @@ impl<'a> Round<'a> {
         Round { prng: Prng::new(seed, number), tally, seed, number, bare, calls: 0 }
     }
 
-    pub fn lend(&mut self, content: &[u8]) -> Lent {
+    pub fn lend<const N: usize>(&mut self, content: &[u8]) -> Lent<N> {
         Lent::new(content, self.bare, &mut self.prng)
     }
 
-    /// Begins the comparison of a call that all sides have made; `asked` names its arguments.
+    /// Begins the comparison of a call that its sides have made; `asked` names its arguments.
     pub fn compare(&mut self, call: Call, asked: String) -> Case<'_, 'a> {
         self.calls += 1;
         Case { round: self, call, asked }
     }
 }
 
-/// A call that all sides have made.
+/// A call that its sides have made.
 pub struct Case<'r, 'a> {
     round: &'r mut Round<'a>,
     call: Call,
@@ -51,7 +51,10 @@ impl Case<'_, '_> {
     }
 
     /// Compares the proved library's answer with the others', in the order of [`OTHERS`].
-    pub fn same<T: PartialEq + Debug>(&mut self, what: &str, proved: T, others: [T; 2]) {
+    pub fn same<T, const N: usize>(&mut self, what: &str, proved: T, others: [T; N])
+    where
+        T: PartialEq + Debug,
+    {
         for (side, other) in OTHERS.iter().zip(others) {
             if proved != other {
                 self.differs(&format!("{what}: proved {proved:?}, {side} {other:?}"));
@@ -60,7 +63,7 @@ impl Case<'_, '_> {
     }
 
     /// Compares a buffer that was lent, and its guards.
-    pub fn buffer(&mut self, what: &str, buffer: &mut Lent, may_change: bool) {
+    pub fn buffer<const N: usize>(&mut self, what: &str, buffer: &mut Lent<N>, may_change: bool) {
         if let Some(fault) = buffer.fault(may_change) {
             self.differs(&format!("{what}: {fault}"));
         }

@@ -1,9 +1,8 @@
-//! The calls of `independent` with the same answers, written for speed on one core: no table, no
-//! allocation, nothing but safe stable Rust. The benchmark takes it for the best that can be had.
+//! The partition calls of `independent` with the same answers, written for speed on one core: no table,
+//! no allocation, nothing but safe stable Rust. The benchmark takes it for the best that can be had.
 //!
 //! Every call tests its own input. A refused call changes no byte.
 
-pub mod card;
 mod checksum;
 pub mod flash;
 

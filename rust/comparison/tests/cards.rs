@@ -1,7 +1,10 @@
-//! Cards that the comparison's random ones seldom are: neighbours linked up or down, which are walked by
-//! fours.
+//! Cards that the rounds' random ones seldom are: neighbours linked up or down, and chains that meet or
+//! break anywhere in them.
 
-use inputs::card::{put, Card, File, CARD, DATA, LAST};
+use galtuyeg::raw;
+use independent::card as independent;
+use inputs::answers::Answer;
+use inputs::card::{put, Card, File, BLOCK, CARD, DATA, LAST, USER};
 
 /// Blocks of a run, and how far from block 0 it lies.
 const RUN: u16 = 12;
@@ -17,8 +20,7 @@ fn card_of(files: &[&[u16]]) -> Card {
 }
 
 fn same(card: &Card) {
-    let bytes = &card.bytes;
-    assert_eq!(fastest::card::check(bytes), independent::card::check(bytes));
+    assert_eq!(raw::card_check(&card.bytes), independent::check(&card.bytes).raw());
 }
 
 /// Two files of every start and size over the same run: they meet, end too early or run on.
@@ -35,7 +37,7 @@ fn meet_everywhere(card: &mut Card) {
 }
 
 fn starts_and_sizes() -> impl Iterator<Item = (u16, u16)> {
-    (BASE..BASE + RUN).flat_map(|first| [1, 4, 5, 6, 8, 9, RUN - 1, RUN].map(|size| (first, size)))
+    (BASE..BASE + RUN).flat_map(|first| (1..=RUN).map(move |size| (first, size)))
 }
 
 /// One link of the run is wrong, or leads elsewhere; the second file begins there.
@@ -56,7 +58,7 @@ fn break_everywhere(card: &mut Card, run: &[u16]) {
 }
 
 #[test]
-fn runs_are_walked_as_block_by_block() {
+fn runs_that_meet_or_break_are_judged_alike() {
     let rising: Vec<u16> = (BASE..BASE + RUN).collect();
     let falling: Vec<u16> = rising.iter().rev().copied().collect();
     for run in [&rising, &falling] {
@@ -68,20 +70,20 @@ fn runs_are_walked_as_block_by_block() {
 
 #[test]
 fn runs_are_followed_to_every_block() {
-    let (mut ours, mut theirs) = ([0; 512], [0; 512]);
-    let rising: Vec<u16> = (0..200).collect();
-    let falling: Vec<u16> = (0..200).rev().collect();
+    let (mut proved, mut other) = ([0; BLOCK], [0; BLOCK]);
+    let rising: Vec<u16> = (0..USER).collect();
+    let falling: Vec<u16> = (0..USER).rev().collect();
     let mixed = [&falling[..7], &rising[..90], &falling[8..50]].concat();
     for run in [rising, falling, mixed] {
         let mut card = card_of(&[&run]);
-        for block in 0..200 {
-            card.bytes[block * 512] = block as u8;
+        for block in 0..USER {
+            card.bytes[usize::from(block) * BLOCK] = block as u8;
         }
-        for index in 0..=200 {
+        for index in 0..=USER.into() {
             let (bytes, name) = (&card.bytes, &[0; 12]);
-            let read = fastest::card::read(bytes, name, index, &mut ours);
-            assert_eq!(read, independent::card::read(bytes, name, index, &mut theirs));
-            assert_eq!(ours, theirs);
+            let verdict = raw::card_read(bytes, name, index, &mut proved);
+            assert_eq!(verdict, independent::read(bytes, name, index, &mut other).raw());
+            assert_eq!(proved, other);
         }
     }
 }
