@@ -7,4 +7,3 @@ pub mod RuleLaws
 pub mod FoldLaws
 pub mod CrcLaws
 pub mod FourLaws
-pub mod PageLaws

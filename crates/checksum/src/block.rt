@@ -3,17 +3,13 @@
 // comes back in three places, and no step waits long for the one before.
 use crate::folding::fold64;
 use crate::folding::remainder;
-use loads::little6;
 use loads::little6_of8;
 use loads::little8;
 ghost use mathlib.Core.Path.{_≡_};
-ghost use mathlib.Core.List.{List, _∷_};
-ghost use Prim.Native.Nat.{ℕ, _*_, _/_, _%_};
 ghost use lib.ListN.{length};
-ghost use lib.Bits.{bitOr, bitXor};
+ghost use lib.Bits.{bitXor};
 ghost use Rattle.checksum.specs.Crc.{shifts, checksumOf};
 ghost use Rattle.checksum.specs.Polynomial.{rem, remLittle, remTwo, remThree, remFour};
-ghost use Rattle.checksum.specs.Loaded.{Loaded};
 
 // A polynomial of 256 digits, the highest in a.
 struct Four {
@@ -75,88 +71,20 @@ fn last(f: Four) -> u16
     remainder(fold64(swap(u.a)) ^ swap(u.b))
 }
 
-// The 62 bytes of a block as eight words, the last of six bytes.
-struct Eight {
-    a: u64,
-    b: u64,
-    c: u64,
-    d: u64,
-    e: u64,
-    f: u64,
-    g: u64,
-    h: u64,
-}
-
-// The words of a block that stands as a run of bytes.
-fn load(bytes: &[u8]) -> Eight
-    requires { ⌜ length (now bytes) ≡ 62 ⌝ }
-    ensures { λ r. ⌜ Loaded (now (bytes .entry)) r ⌝ }
-{
-    Eight {
-        a: little8(bytes, 0),
-        b: little8(bytes, 8),
-        c: little8(bytes, 16),
-        d: little8(bytes, 24),
-        e: little8(bytes, 32),
-        f: little8(bytes, 40),
-        g: little8(bytes, 48),
-        h: little6_of8(bytes, 54),
-    }
-}
-
-// A number before the six bytes of a word.
-fn behind_number(number: u16, w: u64) -> u64
-    ensures { λ r. ⌜ r ≡ bitOr number (w * 65536 % 18446744073709551616) ⌝ }
-{
-    (number as u64) | (w << 16)
-}
-
-// The words of a block of which the number and the page stand apart.
-fn load_page(number: u16, page: &[u8]) -> Eight
-    requires { ⌜ length (now page) ≡ 60 ⌝ }
-    ensures { λ r. ⌜ Loaded (number % 256 ∷ number / 256 ∷ now (page .entry)) r ⌝ }
-{
-    Eight {
-        a: behind_number(number, little6(page, 0)),
-        b: little8(page, 6),
-        c: little8(page, 14),
-        d: little8(page, 22),
-        e: little8(page, 30),
-        f: little8(page, 38),
-        g: little8(page, 46),
-        h: little6_of8(page, 52),
-    }
-}
-
-// The checksum of these words: seven, and six bytes that 16 shifts stand behind. 18825 in the first of them does what FFFF at the
+// The checksum of 62 bytes: seven words, and six bytes that 16 shifts stand behind. 18825 in the first of them does what FFFF at the
 // start and the inversion at the end do to so many digits, whatever they are.
-fn of_eight(w: Eight) -> u16
-    ensures { λ r. ⌜ ((s : List ℕ) → Loaded s w → r ≡ checksumOf s) ⌝ }
-{
-    let f3 = Four {
-        a: w.a ^ 18825,
-        b: w.b,
-        c: w.c,
-        d: w.d,
-    };
-    let f4 = step(f3, w.e);
-    let f5 = step(f4, w.f);
-    let f6 = step(f5, w.g);
-    last(step(f6, w.h))
-}
-
-// The checksum of 62 bytes.
 pub fn of_block(bytes: &[u8]) -> u16
     requires { ⌜ length (now bytes) ≡ 62 ⌝ }
     ensures { λ r. ⌜ r ≡ checksumOf (now (bytes .entry)) ⌝ }
 {
-    of_eight(load(bytes))
-}
-
-// The checksum of a number and the 60 bytes of a page behind it.
-pub fn of_page(number: u16, page: &[u8]) -> u16
-    requires { ⌜ length (now page) ≡ 60 ⌝ }
-    ensures { λ r. ⌜ r ≡ checksumOf (number % 256 ∷ number / 256 ∷ now (page .entry)) ⌝ }
-{
-    of_eight(load_page(number, page))
+    let f3 = Four {
+        a: little8(bytes, 0) ^ 18825,
+        b: little8(bytes, 8),
+        c: little8(bytes, 16),
+        d: little8(bytes, 24),
+    };
+    let f4 = step(f3, little8(bytes, 32));
+    let f5 = step(f4, little8(bytes, 40));
+    let f6 = step(f5, little8(bytes, 48));
+    last(step(f6, little6_of8(bytes, 54)))
 }

@@ -1,7 +1,7 @@
 -- What is left of a list when a part of it, lent and written, is back. Assumes nothing.
-use Prim.Native.Nat.{ℕ, _+_, _-_, _*_, _/_, _%_, _≤_}
+use Prim.Native.Nat.{ℕ, _+_, _-_, _*_, _≤_}
 use mathlib.Core.Path.{_≡_, sym, ap, _∙_}
-use mathlib.Core.List.{List, _∷_, _++_, append-assoc, append-nil}
+use mathlib.Core.List.{List, _++_, append-assoc, append-nil}
 use native.Mathlib.Omega.{arith}
 use lib.ListN.{length, take, drop, length-append, length-drop, drop-of-length-le}
 use lib.Seq.{take-at, drop-at}
@@ -24,17 +24,18 @@ put-block image part k =
 -- number, page and checksum over the three parts of a block
 pub written : {first second third : List ℕ} {sum : ℕ} (block page : List ℕ) (n : ℕ)
     → length block ≡ 64 → length page ≡ 60
-    → sum ≡ checksumOf (n % 256 ∷ n / 256 ∷ page)
-    → first ≡ wordBytes n → second ≡ page → third ≡ wordBytes sum
+    → first ≡ wordBytes n → second ≡ page → sum ≡ checksumOf (take 62 (putMid 2 60 (putMid 0 2 block first) second)) → third ≡ wordBytes sum
     → putMid 62 2 (putMid 2 60 (putMid 0 2 block first) second) third ≡ newBlock n page
 unfolding newBlock wordBytes
-written {first} {second} {third} {sum} block page n lb lp es e1 e2 e3 =
+written {first} {second} {third} {sum} block page n lb lp e1 e2 es e3 =
     let rest = drop 2 block in
     let end = drop 60 rest in
     let l1 : length first ≡ 2 = ap length e1 in
     let l2 : length (first ++ second) ≡ 62 = length-append first second ∙ omega (arith, ap length e2) in
     let le : length end ≤ 2 = simp length-drop (omega arith) in
+    let two : putMid 2 60 (putMid 0 2 block first) second ≡ first ++ second ++ end = laid first second rest 2 60 l1 in
+    let summed : sum ≡ checksumOf (first ++ second) = es ∙ ap checksumOf (ap (take 62) two ∙ take-at (first ++ second) end 62 l2) in
     let all : first ++ second ++ third ≡ wordBytes n ++ page ++ wordBytes (checksumOf (wordBytes n ++ page)) = cc in
-    ap (λ (l : List ℕ). putMid 62 2 l third) (laid first second rest 2 60 l1)
+    ap (λ (l : List ℕ). putMid 62 2 l third) two
     ∙ laid (first ++ second) third end 62 2 l2
     ∙ rw (drop-of-length-le end le) (append-nil _ ∙ all)

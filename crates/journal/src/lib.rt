@@ -1,6 +1,6 @@
 // The journal that a partition is: one block written behind the used ones, and its bitmap bit cleared.
 use bitmap::is_allocated;
-use checksum::block::of_page;
+use checksum::checksum;
 use measures::BLOCK;
 use measures::Measures;
 use words::put_word;
@@ -22,15 +22,14 @@ pub fn copy_page(page: &[u8], to: &mut [u8])
     bytes::copy(&copied, to);
 }
 
-// Number, payload and checksum, over all 64 bytes of the part. The checksum is worked from where the page stands: to load bytes
-// just stored, in words that cross the stores, would wait until all that was begun before is done.
+// Number, payload and checksum, over all 64 bytes of the part. The checksum is that of the part's own first 62 bytes.
 fn write_block(part: &mut [u8], number: usize, page: &[u8])
     requires { ⌜ (length (now part) ≡ 64) × (length (now page) ≡ 60) × (number < 65536) ⌝ }
     ensures { λ _. ⌜ now (part .exit) ≡ newBlock number (now (page .entry)) ⌝ }
 {
-    let sum = of_page(number as u16, page) as usize;
     put_word(&mut part[0..2], number);
     copy_page(page, &mut part[2..62]);
+    let sum = checksum(&part[0..62]) as usize;
     put_word(&mut part[62..64], sum);
 }
 

@@ -36,28 +36,12 @@ pub fn word8(s: &[u8], at: usize) -> u64
     (long(word4(s, at)) << 32) | long(word4(s, at + 4))
 }
 
-// The two bytes from a place, little endian.
-fn little2(s: &[u8], at: usize) -> u32
-    requires { ⌜ at + 2 ≤ length (now s) ⌝ }
-    ensures { λ r. ⌜ Little 2 (now (s .entry)) at r ⌝ }
-{
-    wide(s[at]) | (wide(s[at + 1]) << 8)
-}
-
 // The four bytes from a place, little endian.
 fn little4(s: &[u8], at: usize) -> u32
     requires { ⌜ at + 4 ≤ length (now s) ⌝ }
     ensures { λ r. ⌜ Little 4 (now (s .entry)) at r ⌝ }
 {
     wide(s[at]) | (wide(s[at + 1]) << 8) | (wide(s[at + 2]) << 16) | (wide(s[at + 3]) << 24)
-}
-
-// The six bytes from a place, little endian.
-pub fn little6(s: &[u8], at: usize) -> u64
-    requires { ⌜ at + 6 ≤ length (now s) ⌝ }
-    ensures { λ r. ⌜ Little 6 (now (s .entry)) at r ⌝ }
-{
-    long(little4(s, at)) | (long(little2(s, at + 4)) << 32)
 }
 
 // The eight bytes from a place, little endian.
