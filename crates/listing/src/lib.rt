@@ -1,9 +1,4 @@
 // One pass over the used blocks for whatever looks at all numbers.
-mod lowering;
-
-use distances::nearest;
-use lowering::lower_eight;
-use lowering::lower_in;
 use measures::Measures;
 use measures::NUMBERS;
 use partition::blocks::part_from;
@@ -17,8 +12,7 @@ ghost use Rattle.flash_model.specs.Measures.{capacity};
 ghost use Rattle.flash_model.specs.UserBlock.{number};
 ghost use Rattle.flash_model.specs.Partition.{live, lowestLive};
 ghost use Rattle.partition.specs.Usable.{Usable};
-ghost use Rattle.listing.specs.Listing.{isNew, mark, keptBlocks, asNext};
-ghost use Rattle.listing.specs.Best.{LeftOut};
+ghost use Rattle.listing.specs.Listing.{isNew, mark, keptBlocks, lowered, asNext};
 ghost use Rattle.listing.specs.Passing.{PassAt, StopsAt, leftAndListed};
 
 // A logical number, or none.
@@ -165,30 +159,24 @@ pub fn list_kept(image: &[u8], m: Measures, used: usize, area: &mut [u8], kept: 
     count
 }
 
-// The lowest live number not below the start, whatever checksums are wrong. That of the block `wrong`, if not 0, is known to be.
-fn lowest_right(image: &[u8], m: Measures, used: usize, start: usize, wrong: usize) -> Next
-    requires { ⌜ Usable (now image) (m .size) used ⌝ }
-    requires { ⌜ start < capacity (m .size) ⌝ }
-    requires { ⌜ LeftOut (now image) wrong ⌝ }
-    ensures { λ r. ⌜ r ≡ asNext (lowestLive (now (image .entry)) start) ⌝ }
+// The lower of `best` and the number of the block that begins this part, if that is not below the start and the checksum is
+// right, which is worked only where the number would be the new best. One test decides that: numbers stand in any order, and of
+// two tests one would often go the way that the processor did not expect.
+fn lower(part: &[u8], start: usize, best: usize) -> usize
+    requires { ⌜ 64 ≤ length (now part) ⌝ }
+    ensures { λ r. ⌜ r ≡ lowered start (take 64 (now (part .entry))) best ⌝ }
 {
-    let end = m.capacity();
-    let mut best = end;
-    let mut k: usize = 1;
-    while k + 7 <= used {
-        best = lower_eight(image, m, k, start, best, wrong);
-        k += 8;
+    let number = word(part, 0);
+    if (number < start) | (best <= number) {
+        return best;
     }
-    best = lower_in(image, m, k, used + 1, start, best, wrong);
-    if best < end {
-        Next::Number(best)
-    } else {
-        Next::Nothing
+    if right_checksum(part) {
+        return number;
     }
+    best
 }
 
-// The lowest live number not below the start. Most checksums are right, so the nearest number is found without them, and only
-// where that has none that is right are the others worked.
+// The lowest live number not below the start. None is lower than the start itself, so the pass ends where that is found.
 pub fn next_number(image: &[u8], m: Measures, used: usize, start: usize) -> Next
     requires { ⌜ Usable (now image) (m .size) used ⌝ }
     ensures { λ r. ⌜ r ≡ asNext (lowestLive (now (image .entry)) start) ⌝ }
@@ -197,13 +185,18 @@ pub fn next_number(image: &[u8], m: Measures, used: usize, start: usize) -> Next
     if end <= start {
         return Next::Nothing;
     }
-    let found = nearest(image, m, used, start as u16, (end - start) as u16);
-    let number = start + found.least as usize;
-    if end <= number {
-        return Next::Nothing;
+    let mut best = end;
+    let mut k: usize = 1;
+    while k <= used {
+        best = lower(part_from(image, m, k), start, best);
+        if best == start {
+            return Next::Number(start);
+        }
+        k += 1;
     }
-    if right_checksum(part_from(image, m, found.at)) {
-        return Next::Number(number);
+    if best < end {
+        Next::Number(best)
+    } else {
+        Next::Nothing
     }
-    lowest_right(image, m, used, start, found.at)
 }

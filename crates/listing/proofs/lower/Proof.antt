@@ -1,10 +1,10 @@
--- `lowering::lower` meets its contract: each way out is a case of `lowered`. Assumes nothing.
+-- `listing::lower` meets its contract: each way out is a case of `lowered`. Assumes nothing.
 use mathlib.Core.Path.{sym, _∙_}
 use Rattle.partition.proofs.PartLaws.{number-front}
 use Rattle.listing.proofs.NextLaws.{lowered-passed, lowered-taken, lowered-wrong}
 use borrow.Author.Needs.{needs}
-use Rattle.listing.proofs.lowering.lower.Statement.{statement}
-use Rattle.listing.proofs.lowering.lower.Tie as tie
+use Rattle.listing.proofs.lower.Statement.{statement}
+use Rattle.listing.proofs.lower.Tie as tie
 
 word-requires : tie.Need-word-requires
 word-requires c κs = search needs
