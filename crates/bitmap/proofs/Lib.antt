@@ -1,5 +1,4 @@
+pub mod FoundLaws
 pub mod RunLaws
-pub mod OnesLaws
-pub mod FieldLaws
 pub mod BitReads
-pub mod SequenceOfLaws
+pub mod PassLaws

@@ -1,26 +1,20 @@
 // The bitmap of an image: which user blocks are allocated.
 mod runs;
 
-use loads::word8;
 use measures::Measures;
-use runs::words_end;
+use runs::run_end;
 ghost use mathlib.Core.Path.{_≡_};
-ghost use Prim.Native.Nat.{_^_, _≤_, _<_};
-ghost use Rattle.flash_model.specs.Measures.{capacity};
-ghost use Rattle.flash_model.specs.Partition.{allocated};
+ghost use Prim.Native.Nat.{_≤_};
+ghost use Rattle.flash_model.specs.Measures.{firstBitmap, capacity};
+ghost use Rattle.flash_model.specs.Partition.{allocated, lowestFree};
 ghost use Rattle.bitmap.specs.Over.{Over};
-ghost use Rattle.bitmap.specs.InSequence.{sequenceOf, InWord};
+ghost use Rattle.bitmap.specs.Found.{asFound, lowestAllocated};
+ghost use Rattle.bitmap.specs.Run.{Passed};
 
 // A physical block, or none.
 pub enum Found {
     At(usize),
     Nothing,
-}
-
-// The allocated user blocks are those from 1 to so many, or one stands behind a free one.
-pub enum Sequence {
-    Whole(usize),
-    Broken,
 }
 
 // Whether user block k is allocated: its bit is 0, and block 1's is the 128-bit of the first byte.
@@ -35,38 +29,51 @@ pub fn is_allocated(image: &[u8], m: Measures, k: usize) -> bool
     (image[at] >> place) % 2 == 0
 }
 
-// The bits of the blocks up to `to` make w. In sequence they are ones below zeros: then w has none in common with w + 1, and the
-// ones, a free block each, are the trailing zeros of its complement.
-fn in_word(w: u64, to: usize) -> Sequence
-    requires { ⌜ w < 2 ^ to ⌝ }
-    ensures { λ r. ⌜ InWord w to r ⌝ }
+// If the bit of user block `from` begins a byte, the blocks whose bytes are all `byte` are passed from there on. A byte that has
+// ignored bits is not.
+fn pass_bytes(image: &[u8], m: Measures, from: usize, byte: u8) -> usize
+    requires { ⌜ Over (now image) (m .size) ⌝ }
+    requires { ⌜ (1 ≤ from) × (from ≤ firstBitmap (m .size)) ⌝ }
+    ensures { λ r. ⌜ Passed (now (image .entry)) byte from r ⌝ }
 {
-    if w & std::num::wrapping_add_u64(w, 1) != 0 {
-        return Sequence::Broken;
+    if (from - 1) % 8 != 0 {
+        return from;
     }
-    Sequence::Whole(to - u64::trailing_zeros(!w) as usize)
+    let end = m.first_bitmap();
+    let at = m.start(end);
+    let i = run_end(image, at + (from - 1) / 8, at + (end - 1) / 8, byte);
+    (i - at) * 8 + 1
 }
 
-// How many user blocks are allocated, if none behind a free one: only one word may have bits of both kinds, those before it are
-// all 0 and those behind it all 1. The last word's ignored bits are shifted out.
-pub fn sequence_of(image: &[u8], m: Measures) -> Sequence
+// The lowest free user block: bytes of 0 have none, and the bits of the first other byte are looked at one by one.
+pub fn lowest_free(image: &[u8], m: Measures) -> Found
     requires { ⌜ Over (now image) (m .size) ⌝ }
-    ensures { λ r. ⌜ r ≡ sequenceOf (now (image .entry)) ⌝ }
+    ensures { λ r. ⌜ r ≡ asFound (lowestFree (now (image .entry))) ⌝ }
 {
-    let capacity = m.capacity();
-    let at = m.start(m.first_bitmap());
-    let last = at + (capacity - 1) / 64 * 8;
-    let ignored = 63 - (capacity - 1) % 64;
-    let i = words_end(image, at, last, 0);
-    let tail = word8(image, last) >> ignored;
-    if i == last {
-        return in_word(tail, capacity);
+    let end = m.first_bitmap();
+    let mut k = pass_bytes(image, m, 1, 0);
+    while k < end {
+        if !is_allocated(image, m, k) {
+            return Found::At(k);
+        }
+        k += 1;
     }
-    if words_end(image, i + 8, last, 255) < last {
-        return Sequence::Broken;
+    Found::Nothing
+}
+
+// The lowest allocated user block from `from` on: bytes of FF have none.
+pub fn lowest_allocated(image: &[u8], m: Measures, from: usize) -> Found
+    requires { ⌜ Over (now image) (m .size) ⌝ }
+    requires { ⌜ 1 ≤ from ⌝ }
+    ensures { λ r. ⌜ r ≡ asFound (lowestAllocated (now (image .entry)) from) ⌝ }
+{
+    let end = m.first_bitmap();
+    let mut k = from;
+    while k < end {
+        if is_allocated(image, m, k) {
+            return Found::At(k);
+        }
+        k = pass_bytes(image, m, k + 1, 255);
     }
-    if tail != u64::MAX >> ignored {
-        return Sequence::Broken;
-    }
-    in_word(word8(image, i), 8 * (i - at) + 64)
+    Found::Nothing
 }

@@ -13,21 +13,13 @@ use Rattle.flash_model.specs.Measures.{capacity, legalNumber}
 use Rattle.flash_model.specs.UserBlock.{payload}
 use Rattle.flash_model.specs.Partition.{blockAt, contents, holder}
 use Rattle.flash_model.proofs.HolderLaws.{holder-held}
-use Rattle.bitmap.specs.Over.{asFound}
+use Rattle.bitmap.specs.Found.{asFound}
 use Rattle.bitmap.specs.declared.Found.the-variants.{At, Nothing}
+use Rattle.bitmap.proofs.FoundLaws.{found-at, found-nothing}
 use Rattle.partition.specs.Usable.{Usable}
 use Rattle.pages.specs.Rows.{readRest, readBuffer}
 
 -- ---- a number's contents
-
--- what a search's answer tells
-found-at : (o : Option ℕ) (k : ℕ) → asFound o ≡ At k → o ≡ some k
-found-at none k e = let z : _≡_ {A = ℕ} 0 1 = cc in absurd (omega arith)
-found-at (some j) k e = let z : j ≡ k = cc in ap (λ (i : ℕ). some i) z
-
-found-nothing : (o : Option ℕ) → asFound o ≡ Nothing → o ≡ none
-found-nothing none e = refl
-found-nothing (some j) e = let z : _≡_ {A = ℕ} 0 1 = cc in absurd (omega arith)
 
 pub contents-at : (image : List ℕ) (n k : ℕ) → asFound (holder image n) ≡ At k → contents image n ≡ some (payload (blockAt image k))
 unfolding contents

@@ -22,7 +22,7 @@ use Rattle.flash_model.specs.Calls.{changedSince}
 use Rattle.flash_model.proofs.SoundLaws.{allocated-used}
 use Rattle.flash_model.proofs.SaveLaws.{append-blank, blank-used}
 use Rattle.flash_model.proofs.MeaningLaws.{contents-length}
-use Rattle.bitmap.specs.Over.{asFound}
+use Rattle.bitmap.specs.Found.{asFound}
 use Rattle.bitmap.specs.declared.Found.the-variants.{At, Nothing}
 use Rattle.partition.specs.Usable.{Usable}
 use Rattle.pages.specs.Rows.{canAppend, wrongLengths, saveRest}

@@ -1,19 +1,24 @@
 -- How an image is opened: each way out of the function is a case of `openingOf`. Assumes nothing.
-use Prim.Native.Nat.{ℕ}
-use mathlib.Core.Path.{_≡_, refl, sym, _∙_}
-use mathlib.Core.Bool.{Bool, true, false, not, cond}
+use Prim.Native.Nat.{ℕ, _-_, _≤_}
+use mathlib.Core.Path.{_≡_, refl, sym, ap, _∙_}
+use mathlib.Core.Bool.{Bool, true, false, not, cond, true≢false}
 use mathlib.Core.List.{List}
+use mathlib.Core.Option.{none, some}
 use native.Mathlib.Omega.{arith}
-use lib.Dec.{eqb, ltb}
+use native.Mathlib.Decide.{decLe}
+use lib.Dec.{eqb, ltb, leb}
 use lib.ListN.{length, take}
-use borrow.Author.Tests.{ne-eqb}
+use borrow.Author.Tests.{ne-eqb, le-leb, lt-leb, not-true, not-false}
 use Rattle.words.specs.Words.{sameBytes}
-use Rattle.flash_model.specs.Measures.{legalSize, capacity}
-use Rattle.flash_model.specs.Bitmap.{outOfSequence}
-use Rattle.flash_model.specs.Partition.{magic, headerNumber, version, bitmapOf, row, refusal, used}
+use Rattle.words.proofs.SearchLaws.{IsLowest, lowest-some, lowest-none}
+use Rattle.flash_model.specs.Measures.{legalSize, firstBitmap, capacity}
+use Rattle.flash_model.specs.Bitmap.{outOfSequence, lowestFreeIn}
+use Rattle.flash_model.specs.Partition.{magic, headerNumber, version, bitmapOf, allocated, lowestFree, row, refusal, used}
+use Rattle.flash_model.proofs.MeasureLaws.{Measured, measures-of}
+use Rattle.flash_model.proofs.SequenceLaws.{UpTo, up-to-one, passes-below}
+use Rattle.flash_model.proofs.SoundLaws.{used-most, order-used, up-to-order}
 use Rattle.bitmap.specs.Over.{Over}
-use Rattle.bitmap.specs.InSequence.{sequenceOf}
-use Rattle.bitmap.specs.declared.Sequence.the-variants.{Whole, Broken}
+use Rattle.bitmap.specs.Found.{lowestAllocated}
 use Rattle.partition.specs.Opening.{headerRefusal, openingOf}
 use Rattle.partition.specs.declared.opening.Opened.the-variants.{Refused, Open}
 
@@ -57,23 +62,59 @@ module _ (image : List ℕ) (partition : ℕ) where
     pub open-over : (size : ℕ) → size ≡ length image → Over image size
     open-over size e = record { has-size = sym e; is-legal = rw e open-legal }
 
-    pub open-broken : sequenceOf image ≡ Broken → Refused 5 ≡ openingOf image partition
-    unfolding openingOf sequenceOf rest
-    open-broken e = go (outOfSequence (bitmapOf image) (capacity (length image))) refl e
-      where
-        go : (t : Bool) → outOfSequence (bitmapOf image) (capacity (length image)) ≡ t → cond t Broken (Whole (used image)) ≡ Broken → Refused 5 ≡ openingOf image partition
-        go true q e =
-            let r : refusal image partition ≡ 5 = rest-is ∙ rw q in
-            rw r
-        go false q e = let z : _≡_ {A = ℕ} 0 1 = cc in absurd (omega arith)
+    -- ---- the sequence, where the blocks up to n are allocated and no other
 
-    pub open-whole : (n : ℕ) → sequenceOf image ≡ Whole n → Open n ≡ openingOf image partition
-    unfolding openingOf sequenceOf rest
-    open-whole n e = go (outOfSequence (bitmapOf image) (capacity (length image))) refl e
-      where
-        go : (t : Bool) → outOfSequence (bitmapOf image) (capacity (length image)) ≡ t → cond t Broken (Whole (used image)) ≡ Whole n → Open n ≡ openingOf image partition
-        go true q e = let z : _≡_ {A = ℕ} 0 1 = cc in absurd (omega arith)
-        go false q e =
-            let r : refusal image partition ≡ 0 = rest-is ∙ rw q in
-            let count : n ≡ used image = cc in
-            rw (r, count)
+    open-measured : Measured (length image)
+    open-measured = measures-of (length image) open-legal
+
+    cap : ℕ
+    cap = capacity (length image)
+
+    whole : (n : ℕ) → n ≤ cap → UpTo (allocated image) cap n → Open n ≡ openingOf image partition
+    unfolding openingOf rest cap
+    whole n h b =
+        let order = up-to-order image n b in
+        let count : used image ≡ n = up-to-one (allocated image) cap (used image) n (order-used image order) b (used-most image) h in
+        let r : refusal image partition ≡ 0 = rest-is ∙ rw order in
+        rw (r, count)
+
+    -- no block is free
+    pub open-full : lowestFree image ≡ none → (n : ℕ) → n ≡ capacity (length image) → Open n ≡ openingOf image partition
+    unfolding lowestFree lowestFreeIn allocated cap
+    open-full e n f = whole n (omega arith) (λ k lo hi. not-false (allocated image k) (lowest-none (λ j. not (allocated image j)) 1 cap e k lo (omega arith)) ∙ sym (le-leb k n (omega arith)))
+
+    -- block k is the lowest free one
+    module _ (k : ℕ) (e : lowestFree image ≡ some k) where
+      free-first : IsLowest (λ j. not (allocated image j)) 1 cap k
+      unfolding lowestFree lowestFreeIn allocated cap
+      free-first = lowest-some (λ j. not (allocated image j)) 1 cap k e
+
+      pub free-low : 1 ≤ k
+      free-low = free-first .low
+
+      pub open-gap : (j : ℕ) → lowestAllocated image k ≡ some j → Refused 5 ≡ openingOf image partition
+      unfolding openingOf rest lowestAllocated cap
+      open-gap j f = go (outOfSequence (bitmapOf image) (capacity (length image))) refl
+        where
+          behind : IsLowest (allocated image) k (firstBitmap (length image) - k) j
+          behind = lowest-some (allocated image) k (firstBitmap (length image) - k) j f
+
+          go : (t : Bool) → outOfSequence (bitmapOf image) (capacity (length image)) ≡ t → Refused 5 ≡ openingOf image partition
+          go true q =
+              let r : refusal image partition ≡ 5 = rest-is ∙ rw q in
+              rw r
+          go false q =
+              let free = not-true (allocated image k) (free-first .passes) in
+              let other : j ≡ k → ⊥ = λ z. true≢false (sym (behind .passes) ∙ ap (allocated image) z ∙ free) in
+              let below = passes-below (allocated image) cap (used image) (order-used image q) k j free-low (omega (arith, behind .low, other)) (omega (arith, behind .high, free-first .high, open-measured .first-bitmap)) (behind .passes) in
+              absurd (true≢false (sym below ∙ free))
+
+      pub open-free : lowestAllocated image k ≡ none → Open (k - 1) ≡ openingOf image partition
+      unfolding lowestAllocated cap
+      open-free f = whole (k - 1) (omega (arith, free-first .high)) (λ j lo hi. go j lo hi (decLe k j))
+        where
+          go : (j : ℕ) → 1 ≤ j → j ≤ cap → Dec (k ≤ j) → allocated image j ≡ leb j (k - 1)
+          go j lo hi (yes d) =
+              lowest-none (allocated image) k (firstBitmap (length image) - k) f j d (omega (arith, hi, free-first .high, open-measured .first-bitmap))
+              ∙ sym (lt-leb j (k - 1) (omega (arith, d, free-low)))
+          go j lo hi (no d) = not-false (allocated image j) (free-first .none-below j lo (omega (arith, d))) ∙ sym (le-leb j (k - 1) (omega (arith, d)))

@@ -11,7 +11,7 @@ use Rattle.flash_model.specs.Measures.{legalNumber}
 use Rattle.flash_model.specs.UserBlock.{number, rightChecksum}
 use Rattle.flash_model.specs.Partition.{blockAt, holder}
 use Rattle.flash_model.proofs.HolderLaws.{matches}
-use Rattle.bitmap.specs.Over.{asFound}
+use Rattle.bitmap.specs.Found.{asFound}
 use Rattle.bitmap.specs.declared.Found.the-variants.{At, Nothing}
 use Rattle.partition.specs.Usable.{Usable}
 use Rattle.partition.specs.Search.{foundUpTo}

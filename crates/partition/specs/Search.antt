@@ -8,7 +8,7 @@ use lib.Dec.{eqb}
 use Rattle.words.specs.Search.{highest}
 use Rattle.flash_model.specs.UserBlock.{number, rightChecksum}
 use Rattle.flash_model.specs.Partition.{blockAt}
-use Rattle.bitmap.specs.Over.{asFound}
+use Rattle.bitmap.specs.Found.{asFound}
 use Rattle.bitmap.specs.declared.Found.{Found}
 
 -- The highest of the blocks 1 to k that has the number and a right checksum.

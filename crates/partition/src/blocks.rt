@@ -10,7 +10,8 @@ ghost use lib.ListN.{length, take};
 ghost use Rattle.flash_model.specs.UserBlock as model;
 ghost use Rattle.flash_model.specs.Measures.{capacity, legalNumber};
 ghost use Rattle.flash_model.specs.Partition.{blockAt, holder};
-ghost use Rattle.bitmap.specs.Over.{Over, asFound};
+ghost use Rattle.bitmap.specs.Over.{Over};
+ghost use Rattle.bitmap.specs.Found.{asFound};
 ghost use Rattle.partition.specs.Usable.{Usable};
 ghost use Rattle.partition.specs.Search.{foundUpTo, NextNumbered};
 

@@ -1,5 +1,5 @@
 // What every call on a partition begins with: refusals 1 to 5.
-use bitmap::Sequence;
+use bitmap::Found;
 use measures::Measures;
 use words::same;
 ghost use mathlib.Core.Path.{_≡_};
@@ -30,8 +30,8 @@ fn header_refusal(image: &[u8], partition: u8) -> u8
     0
 }
 
-// The sequence of the bitmap is tested here and nowhere else: on a sound partition the allocated blocks are those from 1 to
-// the count.
+// The lowest free block, and no allocated one behind it: on a sound partition the allocated blocks are those from 1 to the
+// count. That is tested here and nowhere else.
 pub fn open(image: &[u8], partition: u8) -> Opened
     ensures { λ r. ⌜ r ≡ openingOf (now (image .entry)) partition ⌝ }
 {
@@ -40,8 +40,11 @@ pub fn open(image: &[u8], partition: u8) -> Opened
         return Opened::Refused(refused);
     }
     let m = Measures::of(image.len());
-    let Sequence::Whole(used) = bitmap::sequence_of(image, m) else {
+    let Found::At(free) = bitmap::lowest_free(image, m) else {
+        return Opened::Open(m.capacity());
+    };
+    let Found::Nothing = bitmap::lowest_allocated(image, m, free) else {
         return Opened::Refused(5);
     };
-    Opened::Open(used)
+    Opened::Open(free - 1)
 }

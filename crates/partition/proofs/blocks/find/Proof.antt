@@ -5,7 +5,7 @@ use mathlib.Core.Bool.{_&&_}
 use native.Mathlib.Omega.{arith}
 use Rattle.flash_model.specs.UserBlock.{rightChecksum}
 use Rattle.flash_model.specs.Partition.{holder}
-use Rattle.bitmap.specs.Over.{asFound}
+use Rattle.bitmap.specs.Found.{asFound}
 use Rattle.partition.specs.Search.{foundUpTo}
 use Rattle.partition.proofs.SearchLaws.{from-used, found-here, passed, none-left}
 use Rattle.partition.proofs.UsableLaws.{usable-over, count-most}
