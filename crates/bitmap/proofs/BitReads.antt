@@ -1,5 +1,5 @@
--- Where an image has a user block's bit, and what it says. Assumes nothing.
-use Prim.Native.Nat.{ℕ, _+_, _*_, _-_, _/_, _%_, _^_, _≤_, _<_}
+-- What an image says at the place of a user block's bit. Assumes nothing.
+use Prim.Native.Nat.{ℕ, _+_, _*_, _/_, _%_, _^_, _≤_, _<_}
 use mathlib.Core.Path.{_≡_, sym, ap, _∙_}
 use mathlib.Core.List.{List}
 use native.Mathlib.Omega.{arith}
@@ -16,16 +16,24 @@ module _ (image : List ℕ) (size : ℕ) (o : Over image size) where
   pub over-measured : Measured size
   over-measured = measures-of size (o .is-legal)
 
-  pub byte-inside : (k : ℕ) → 1 ≤ k → k ≤ capacity size → firstBitmap size * 64 + (k - 1) / 8 < length image
-  byte-inside k lo hi =
-      let m = over-measured in
-      omega (arith, o .has-size, m .whole, m .first-bitmap, m .bits-enough)
+pub byte-inside : (size k : ℕ) → Measured size → 1 ≤ k → k ≤ capacity size → firstBitmap size * 64 + bitByte k < size
+unfolding bitByte
+byte-inside size k m lo hi = omega (arith, m .whole, m .first-bitmap, m .bits-enough)
 
-  module _ (at : ℕ) (e : at ≡ firstBitmap size * 64) where
-    pub allocated-is : (k : ℕ) → eqb (getD image (at + (k - 1) / 8) 0 / 2 ^ (7 - (k - 1) % 8) % 2) 0 ≡ allocated image k
-    unfolding allocated allocatedIn bitOf bitWeight bitPlace
-    allocated-is k =
-        let f : getD image (at + (k - 1) / 8) 0 ≡ getD (bitmapOf image) (bitByte k) 0 =
-        unfold bitByte in ap (λ (n : ℕ). getD image (n + (k - 1) / 8) 0) (e ∙ ap (λ (n : ℕ). firstBitmap n * 64) (sym (o .has-size)))
-        ∙ sym (bitmap-byte image ((k - 1) / 8)) in
-        ap (λ (n : ℕ). eqb (n / 2 ^ (7 - (k - 1) % 8) % 2) 0) f
+pub place-low : (k : ℕ) → bitPlace k < 8
+unfolding bitPlace
+place-low k = omega arith
+
+module _ {image : List ℕ} {size at : ℕ} (k : ℕ) (o : Over image size) (a : at ≡ firstBitmap size * 64 + bitByte k) where
+  pub at-inside : 1 ≤ k → k ≤ capacity size → at < length image
+  at-inside lo hi = omega (arith, a, o .has-size, byte-inside size k (over-measured image size o) lo hi)
+
+  pub at-is : firstBitmap (length image) * 64 + bitByte k ≡ at
+  at-is = ap (λ (n : ℕ). firstBitmap n * 64 + bitByte k) (o .has-size) ∙ sym a
+
+  pub byte-is : getD (bitmapOf image) (bitByte k) 0 ≡ getD image at 0
+  byte-is = bitmap-byte image (bitByte k) ∙ ap (λ (n : ℕ). getD image n 0) at-is
+
+  pub allocated-is : {place : ℕ} → place ≡ bitPlace k → eqb (getD image at 0 / 2 ^ place % 2) 0 ≡ allocated image k
+  unfolding allocated allocatedIn bitOf bitWeight
+  allocated-is p = rw (byte-is, p)

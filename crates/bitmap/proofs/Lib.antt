@@ -1,4 +1,5 @@
 pub mod FoundLaws
 pub mod RunLaws
 pub mod BitReads
+pub mod BitWrites
 pub mod PassLaws

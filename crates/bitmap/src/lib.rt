@@ -4,9 +4,12 @@ mod runs;
 use measures::Measures;
 use runs::run_end;
 ghost use mathlib.Core.Path.{_≡_};
-ghost use Prim.Native.Nat.{_≤_};
-ghost use Rattle.flash_model.specs.Measures.{firstBitmap, capacity};
+ghost use mathlib.Core.Bool.{true, false};
+ghost use Prim.Native.Nat.{_+_, _*_, _≤_};
+ghost use Rattle.flash_model.specs.Measures.{legalSize, firstBitmap, capacity};
+ghost use Rattle.flash_model.specs.Bitmap.{bitByte, bitPlace};
 ghost use Rattle.flash_model.specs.Partition.{allocated, lowestFree};
+ghost use Rattle.flash_model.specs.Update.{bitCleared};
 ghost use Rattle.bitmap.specs.Over.{Over};
 ghost use Rattle.bitmap.specs.Found.{asFound, lowestAllocated};
 ghost use Rattle.bitmap.specs.Run.{Passed};
@@ -17,16 +20,42 @@ pub enum Found {
     Nothing,
 }
 
-// Whether user block k is allocated: its bit is 0, and block 1's is the 128-bit of the first byte.
+// The byte of the image that has user block k's bit.
+fn bit_byte(m: Measures, k: usize) -> usize
+    requires { ⌜ legalSize (m .size) ≡ true ⌝ }
+    requires { ⌜ (1 ≤ k) × (k ≤ capacity (m .size)) ⌝ }
+    ensures { λ r. ⌜ r ≡ firstBitmap (m .size) * 64 + bitByte k ⌝ }
+{
+    let first = m.first_bitmap();
+    m.start(first) + (k - 1) / 8
+}
+
+// The bit's place in it, from the low end: block 1's is the 128-bit.
+fn bit_place(k: usize) -> usize
+    requires { ⌜ 1 ≤ k ⌝ }
+    ensures { λ r. ⌜ r ≡ bitPlace k ⌝ }
+{
+    7 - (k - 1) % 8
+}
+
+// Whether user block k is allocated: its bit is 0.
 pub fn is_allocated(image: &[u8], m: Measures, k: usize) -> bool
     requires { ⌜ Over (now image) (m .size) ⌝ }
     requires { ⌜ (1 ≤ k) × (k ≤ capacity (m .size)) ⌝ }
     ensures { λ r. ⌜ r ≡ allocated (now (image .entry)) k ⌝ }
 {
-    let first = m.first_bitmap();
-    let at = m.start(first) + (k - 1) / 8;
-    let place = 7 - (k - 1) % 8;
-    (image[at] >> place) % 2 == 0
+    (image[bit_byte(m, k)] >> bit_place(k)) % 2 == 0
+}
+
+// The bit of user block k, which is free, is cleared.
+pub fn clear_bit(image: &mut [u8], m: Measures, k: usize)
+    requires { ⌜ Over (now image) (m .size) ⌝ }
+    requires { ⌜ (1 ≤ k) × (k ≤ capacity (m .size)) ⌝ }
+    requires { ⌜ allocated (now image) k ≡ false ⌝ }
+    ensures { λ _. ⌜ now (image .exit) ≡ bitCleared (now (image .entry)) k ⌝ }
+{
+    let at = bit_byte(m, k);
+    image[at] = image[at] - (1u8 << bit_place(k));
 }
 
 // If the bit of user block `from` begins a byte, the blocks whose bytes are all `byte` are passed from there on. A byte that has

@@ -16,6 +16,7 @@ use Rattle.flash_model.specs.UserBlock.{number}
 use Rattle.flash_model.specs.Partition.{blockAt}
 use Rattle.flash_model.specs.Update.{isHolder, holders, otherHolders}
 use Rattle.partition.specs.Usable.{Usable}
+use Rattle.partition.specs.declared.opening.Log.{Log}
 use Rattle.partition.proofs.UsableLaws.{usable-measured, count-most}
 use Rattle.listing.specs.Listing.{Blank, isKept, keptBlocks}
 use Rattle.listing.proofs.HolderLaws.{kept-by}
@@ -34,12 +35,12 @@ rising-keep p k (suc n) bytes h = go (rising-keep p (suc k) n bytes (omega arith
 pub part-is : (room at : ℕ) (area list : List ℕ) → length area ≡ room → drop at area ≡ list → take (room - at) (drop at area) ≡ list
 part-is room at area list l e = take-all (room - at) (drop at area) (omega (arith, length-drop at area, l)) ∙ e
 
-module _ (image : List ℕ) (size count : ℕ) (u : Usable image size count) where
-  pub kept-rise : (area : List ℕ) → RisingBlocks 1 (length image) (keptBlocks area image count)
+module _ {image : List ℕ} {log : Log} (u : Usable image log) where
+  pub kept-rise : (area : List ℕ) → RisingBlocks 1 (length image) (keptBlocks area image (log .used))
   unfolding keptBlocks
   kept-rise area =
-      let w = usable-measured image size count u .whole in
-      rising-keep (isKept area image) 1 count (length image) (omega (arith, w, u .has-size, count-most image size count u))
+      let w = usable-measured u .whole in
+      rising-keep (isKept area image) 1 (log .used) (length image) (omega (arith, w, u .has-size, count-most u))
 
   module _ (area : List ℕ) (blank : Blank area) where
     -- with a mark for the saved number
@@ -50,8 +51,8 @@ module _ (image : List ℕ) (size count : ℕ) (u : Usable image size count) whe
         go (yes q) = rw (q, getD-set-same area n v 0 h, d, eq-eqb n n refl)
         go (no o) = rw (getD-set-other area n m v 0 o, blank m, ne-eqb m n o)
 
-    pub kept-others : (n v : ℕ) → n < length area → eqb v 0 ≡ false → map (blockAt image) (keptBlocks (set area n v) image count) ≡ otherHolders image n
+    pub kept-others : (n v : ℕ) → n < length area → eqb v 0 ≡ false → map (blockAt image) (keptBlocks (set area n v) image (log .used)) ≡ otherHolders image n
     unfolding holders otherHolders
     kept-others n v h d =
-        ap (map (blockAt image)) (kept-by image size count u (set area n v) (λ k. not (eqb (number (blockAt image k)) n)) (λ k. marked n v (number (blockAt image k)) h d))
+        ap (map (blockAt image)) (kept-by u (set area n v) (λ k. not (eqb (number (blockAt image k)) n)) (λ k. marked n v (number (blockAt image k)) h d))
         ∙ keep-map (blockAt image) (λ b. not (eqb (number b) n)) (keep (isHolder image) (userBlocks (length image)))

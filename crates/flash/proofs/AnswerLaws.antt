@@ -1,7 +1,7 @@
 -- The public calls answer as the model says: refused by rows 1 to 5, or by what is left of the call past them.
 -- Assumes nothing.
 use Prim.Native.Nat.{ℕ}
-use mathlib.Core.Path.{_≡_, refl, sym, ap, _∙_}
+use mathlib.Core.Path.{_≡_, refl, sym, ap, subst, _∙_}
 use mathlib.Core.Bool.{Bool, true, false, cond, false≢true}
 use mathlib.Core.List.{List, [], _∷_}
 use mathlib.Core.Option.{Option, none, some}
@@ -9,10 +9,9 @@ use mathlib.Core.Logic.{_≢_}
 use native.Mathlib.Omega.{arith}
 use native.Mathlib.Decide.{ℕ-discrete}
 use lib.Dec.{eqb}
-use lib.ListN.{length}
 use borrow.Author.Tests.{eqb-true, eqb-false, ne-eqb}
 use Rattle.words.specs.Lists.{isSome, toList}
-use Rattle.flash_model.specs.Partition.{refusal, contents, used, lowestLive}
+use Rattle.flash_model.specs.Partition.{refusal, contents, lowestLive}
 use Rattle.flash_model.specs.Update.{saved, erased}
 use Rattle.flash_model.specs.Calls.{Call, codeOf, accepted, valuesOf, buffersOf, filledBuffers, changedImage, replyTo, after, Answered}
 use Rattle.flash_model.specs.Calls.{Call.onPage, Call.onWhole, PageCall.read, PageCall.save, WholeCall.check, WholeCall.report, WholeCall.nextLive, WholeCall.erase}
@@ -20,7 +19,8 @@ use Rattle.flash_model.specs.Demands.{namedBy}
 use Rattle.flash_model.proofs.CallLaws.{unrefused-sound, read-rows}
 use Rattle.flash_model.proofs.Demand2Laws.{refused-first}
 use Rattle.partition.specs.Usable.{Usable}
-use Rattle.partition.specs.Opening.{openingOf}
+use Rattle.partition.specs.Opening.{logOf, openingOf}
+use Rattle.partition.specs.declared.opening.Log.{Log}
 use Rattle.partition.specs.declared.opening.Opened.the-variants as opening
 use Rattle.pages.specs.Rows.{readRest, orBuffer, readBuffer, wrongLengths, saveRest}
 use Rattle.flash.specs.Answers.{numbered, listed, nextAnswer, countsOf, nextOf}
@@ -35,23 +35,30 @@ unfolding openingOf
 opened-refused image partition n e = go (eqb (refusal image partition) 0) refl e
   where
     go : (t : Bool) → eqb (refusal image partition) 0 ≡ t
-        → cond t (opening.Open (used image)) (opening.Refused (refusal image partition)) ≡ opening.Refused n
+        → cond t (opening.Open (logOf image)) (opening.Refused (refusal image partition)) ≡ opening.Refused n
         → (refusal image partition ≡ n) × (n ≢ 0)
     go true q f = let z : _≡_ {A = ℕ} 0 1 = cc in absurd (omega arith)
     go false q f = let z : refusal image partition ≡ n = cc in (z, λ w. eqb-false (refusal image partition) 0 q (z ∙ w))
 
-pub opened-usable : (image : List ℕ) (partition count : ℕ) → openingOf image partition ≡ opening.Open count
-    → (refusal image partition ≡ 0) × ((size : ℕ) → size ≡ length image → Usable image size count)
-unfolding openingOf
-opened-usable image partition count e = go (eqb (refusal image partition) 0) refl e
+-- the image is no longer refused by them, and the log is of it
+pub record PastOpening (image : List ℕ) (partition : ℕ) (log : Log) : Type 0 where
+  pub unrefused : refusal image partition ≡ 0
+  pub usable : Usable image log
+
+pub opened : (image : List ℕ) (partition : ℕ) (log : Log) → openingOf image partition ≡ opening.Open log → PastOpening image partition log
+unfolding openingOf logOf
+opened image partition log e = go (eqb (refusal image partition) 0) refl e
   where
     go : (t : Bool) → eqb (refusal image partition) 0 ≡ t
-        → cond t (opening.Open (used image)) (opening.Refused (refusal image partition)) ≡ opening.Open count
-        → (refusal image partition ≡ 0) × ((size : ℕ) → size ≡ length image → Usable image size count)
+        → cond t (opening.Open (logOf image)) (opening.Refused (refusal image partition)) ≡ opening.Open log
+        → PastOpening image partition log
     go true q f =
         let z = eqb-true (refusal image partition) 0 q in
-        let u : count ≡ used image = cc in
-        (z, λ size s. record { has-size = sym s; is-sound = unrefused-sound image partition z; used-is = u })
+        let l : logOf image ≡ log = cc in
+        record {
+          unrefused = z;
+          usable = subst (Usable image) l (record { has-size = refl; is-sound = unrefused-sound image partition z; used-is = refl });
+        }
     go false q f = let z : _≡_ {A = ℕ} 0 1 = cc in absurd (omega arith)
 
 -- ---- refused, or done

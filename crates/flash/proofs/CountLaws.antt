@@ -8,6 +8,7 @@ use lib.ListN.{length, getD}
 use Rattle.flash_model.specs.Measures.{capacity}
 use Rattle.flash_model.specs.Partition.{version, live}
 use Rattle.partition.specs.Usable.{Usable}
+use Rattle.partition.specs.declared.opening.Log.{Log}
 use Rattle.listing.specs.Listing.{asNext}
 use Rattle.listing.specs.declared.Next.the-variants as nexts
 use Rattle.flash.specs.Answers.{countsOf, nextOf}
@@ -26,9 +27,9 @@ next-missing (some m) e = let z : _≡_ {A = ℕ} 0 1 = cc in absurd (omega arit
 
 -- ---- the counts
 
-pub counts-are : (image : List ℕ) (size count : ℕ) → Usable image size count → (cap n : ℕ) → cap ≡ capacity size → n ≡ live image
-    → _≡_ {A = Counts} (record { version = getD image 17 0; capacity = cap; used = count; live = n }) (countsOf image)
+pub counts-are : {image : List ℕ} {log : Log} → Usable image log → (cap n : ℕ) → cap ≡ capacity (log .m .size) → n ≡ live image
+    → _≡_ {A = Counts} (record { version = getD image 17 0; capacity = cap; used = log .used; live = n }) (countsOf image)
 unfolding countsOf version
-counts-are image size count u cap n c l =
+counts-are {image} u cap n c l =
     let s : cap ≡ capacity (length image) = c ∙ ap capacity (sym (u .has-size)) in
     rw (s, l, u .used-is)

@@ -4,7 +4,6 @@
 // No call asks anything of what it is lent.
 mod steps;
 
-use measures::Measures;
 use partition::opening::Opened;
 use partition::opening::open;
 ghost use mathlib.Core.List.{[], _∷_};
@@ -45,11 +44,7 @@ pub fn report(image: &[u8], partition: u8) -> Summary
 {
     match open(image, partition) {
         Opened::Refused(refused) => Summary::Refused(refused),
-        Opened::Open(used) => Summary::Counted(steps::count_blocks(
-            image,
-            Measures::of(image.len()),
-            used,
-        )),
+        Opened::Open(log) => Summary::Counted(steps::count_blocks(image, log)),
     }
 }
 
@@ -59,7 +54,7 @@ pub fn next_live(image: &[u8], partition: u8, from: usize) -> LiveNumber
 {
     match open(image, partition) {
         Opened::Refused(refused) => LiveNumber::Refused(refused),
-        Opened::Open(used) => steps::next_from(image, Measures::of(image.len()), used, from),
+        Opened::Open(log) => steps::next_from(image, log, from),
     }
 }
 
@@ -69,13 +64,7 @@ pub fn read(image: &[u8], partition: u8, number: usize, page: &mut [u8]) -> u8
 {
     match open(image, partition) {
         Opened::Refused(refused) => refused,
-        Opened::Open(used) => pages::read_page(
-            image,
-            Measures::of(image.len()),
-            used,
-            number,
-            page,
-        ),
+        Opened::Open(log) => pages::read_page(image, log, number, page),
     }
 }
 
@@ -85,14 +74,7 @@ pub fn save(image: &mut [u8], partition: u8, number: usize, expected: &[u8], pag
 {
     match open(&image[..], partition) {
         Opened::Refused(refused) => refused,
-        Opened::Open(used) => pages::save_page(
-            image,
-            Measures::of(image.len()),
-            used,
-            number,
-            expected,
-            page,
-        ),
+        Opened::Open(log) => pages::save_page(image, log, number, expected, page),
     }
 }
 
@@ -102,8 +84,8 @@ pub fn erase(image: &mut [u8], partition: u8) -> u8
 {
     match open(&image[..], partition) {
         Opened::Refused(refused) => refused,
-        Opened::Open(used) => {
-            compaction::erase(image, Measures::of(image.len()), used);
+        Opened::Open(log) => {
+            compaction::erase(image, log);
             0
         }
     }

@@ -2,30 +2,30 @@
 use crate::Counts;
 use crate::LiveNumber;
 use listing::Next;
-use measures::Measures;
+use partition::opening::Log;
 ghost use mathlib.Core.Path.{_≡_};
 ghost use Rattle.flash_model.specs.Partition.{lowestLive};
 ghost use Rattle.partition.specs.Usable.{Usable};
 ghost use Rattle.flash.specs.Answers.{countsOf, nextOf};
 
-pub(crate) fn count_blocks(image: &[u8], m: Measures, used: usize) -> Counts
-    requires { ⌜ Usable (now image) (m .size) used ⌝ }
+pub(crate) fn count_blocks(image: &[u8], log: Log) -> Counts
+    requires { ⌜ Usable (now image) log ⌝ }
     ensures { λ r. ⌜ r ≡ countsOf (now (image .entry)) ⌝ }
 {
-    let live = listing::count_live(image, m, used);
+    let live = listing::count_live(image, log);
     Counts {
         version: image[17],
-        capacity: m.capacity(),
-        used,
+        capacity: log.m.capacity(),
+        used: log.used,
         live,
     }
 }
 
-pub(crate) fn next_from(image: &[u8], m: Measures, used: usize, from: usize) -> LiveNumber
-    requires { ⌜ Usable (now image) (m .size) used ⌝ }
+pub(crate) fn next_from(image: &[u8], log: Log, from: usize) -> LiveNumber
+    requires { ⌜ Usable (now image) log ⌝ }
     ensures { λ r. ⌜ r ≡ nextOf (lowestLive (now (image .entry)) from) ⌝ }
 {
-    match listing::next_number(image, m, used, from) {
+    match listing::next_number(image, log, from) {
         Next::Number(n) => LiveNumber::Number(n),
         Next::Nothing => LiveNumber::Refused(7),
     }

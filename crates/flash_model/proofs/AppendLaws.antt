@@ -60,7 +60,7 @@ module _ (image new : List ℕ) (k : ℕ) (m : Measured (length image)) (lo : 1 
       ∙ drop-append-add (take (k * 64) image ++ new) (drop (k * 64 + 64) image) d
       ∙ drop-drop d (k * 64 + 64) image ∙ ap (λ (j : ℕ). drop j image) f
 
-  written-bitmap : bitmapOf (withBlock image k new) ≡ bitmapOf image
+  pub written-bitmap : bitmapOf (withBlock image k new) ≡ bitmapOf image
   unfolding bitmapOf
   written-bitmap = rw written-length (written-above (firstBitmap (length image) * 64) (omega (arith, m .first-bitmap)))
 

@@ -1,3 +1,3 @@
 pub mod PartLaws
 pub mod OverLaws
-pub mod BitWrites
+pub mod AppendLaws

@@ -1,14 +1,16 @@
 // The journal that a partition is: one block written behind the used ones, and its bitmap bit cleared.
-use bitmap::is_allocated;
+use bitmap::clear_bit;
 use checksum::checksum;
 use measures::BLOCK;
 use measures::Measures;
 use words::put_word;
 ghost use mathlib.Core.Path.{_≡_};
+ghost use mathlib.Core.Bool.{false};
 ghost use Prim.Native.Nat.{_≤_, _<_};
 ghost use lib.ListN.{length};
 ghost use Rattle.flash_model.specs.Measures.{capacity};
 ghost use Rattle.flash_model.specs.UserBlock.{newBlock};
+ghost use Rattle.flash_model.specs.Partition.{allocated};
 ghost use Rattle.flash_model.specs.Update as model;
 ghost use Rattle.bitmap.specs.Over.{Over};
 
@@ -44,25 +46,11 @@ pub fn put_block(image: &mut [u8], m: Measures, k: usize, number: usize, page: &
     write_block(&mut image[at..end], number, page);
 }
 
-// User block k's bitmap bit is cleared, if it is 1.
-fn clear_bit(image: &mut [u8], m: Measures, k: usize)
-    requires { ⌜ Over (now image) (m .size) ⌝ }
-    requires { ⌜ (1 ≤ k) × (k ≤ capacity (m .size)) ⌝ }
-    ensures { λ _. ⌜ now (image .exit) ≡ model.bitCleared (now (image .entry)) k ⌝ }
-{
-    if is_allocated(&image[..], m, k) {
-        return;
-    }
-    let first = m.first_bitmap();
-    let at = m.start(first) + (k - 1) / 8;
-    let place = 7 - (k - 1) % 8;
-    image[at] = image[at] - (1u8 << place);
-}
-
 // The free block k gets number, payload and checksum, and its bit is cleared.
 pub fn append(image: &mut [u8], m: Measures, k: usize, number: usize, page: &[u8])
     requires { ⌜ Over (now image) (m .size) ⌝ }
-    requires { ⌜ (1 ≤ k) × (k ≤ capacity (m .size)) × (length (now page) ≡ 60) × (number < 65536) ⌝ }
+    requires { ⌜ (1 ≤ k) × (k ≤ capacity (m .size)) × (allocated (now image) k ≡ false) ⌝ }
+    requires { ⌜ (length (now page) ≡ 60) × (number < 65536) ⌝ }
     ensures { λ _. ⌜ now (image .exit) ≡ model.appended (now (image .entry)) k (newBlock number (now (page .entry))) ⌝ }
 {
     put_block(image, m, k, number, page);

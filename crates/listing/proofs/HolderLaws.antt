@@ -16,6 +16,7 @@ use Rattle.flash_model.proofs.SoundLaws.{allocated-used, sound-measured}
 use Rattle.flash_model.proofs.HolderLaws.{is-holder-at}
 use Rattle.flash_model.proofs.RoomLaws.{live-holders}
 use Rattle.partition.specs.Usable.{Usable}
+use Rattle.partition.specs.declared.opening.Log.{Log}
 use Rattle.partition.proofs.UsableLaws.{count-most}
 use Rattle.listing.specs.Listing.{Blank, isKept, keptBlocks}
 
@@ -47,9 +48,9 @@ keep-all (x ∷ l) = rw (keep-all l)
 
 -- ---- the holders
 
-module _ (image : List ℕ) (size count : ℕ) (u : Usable image size count) where
+module _ {image : List ℕ} {log : Log} (u : Usable image log) where
   -- no block above the used ones is a holder
-  unused-holder : (k : ℕ) → count < k → k ≤ capacity (length image) → isHolder image k ≡ false
+  unused-holder : (k : ℕ) → log .used < k → k ≤ capacity (length image) → isHolder image k ≡ false
   unused-holder k lo hi = go (isHolder image k) refl
     where
       go : (t : Bool) → isHolder image k ≡ t → t ≡ false
@@ -58,26 +59,26 @@ module _ (image : List ℕ) (size count : ℕ) (u : Usable image size count) whe
           let a = is-holder-at image k e .here .is-allocated in
           absurd (true≢false (sym a ∙ allocated-used image (u .is-sound) k (omega (arith, lo)) hi ∙ lt-leb k (used image) (omega (arith, lo, u .used-is))))
 
-  used-holders : keep (isHolder image) (userBlocks (length image)) ≡ keep (isHolder image) (numbersFrom 1 count)
+  used-holders : keep (isHolder image) (userBlocks (length image)) ≡ keep (isHolder image) (numbersFrom 1 (log .used))
   unfolding userBlocks
   used-holders =
-      keep-below (isHolder image) 1 count (capacity (length image)) (omega (arith, count-most image size count u, ap capacity (u .has-size)))
+      keep-below (isHolder image) 1 (log .used) (capacity (length image)) (omega (arith, count-most u, ap capacity (u .has-size)))
       (λ i a b. unused-holder i (omega (arith, a)) (omega (arith, b)))
 
   -- a test of the holders that are kept of an area
   pub kept-by : (area : List ℕ) (q : ℕ → Bool) → ((k : ℕ) → eqb (getD area (number (blockAt image k)) 0) 0 ≡ q k)
-      → keptBlocks area image count ≡ keep q (keep (isHolder image) (userBlocks (length image)))
+      → keptBlocks area image (log .used) ≡ keep q (keep (isHolder image) (userBlocks (length image)))
   unfolding keptBlocks isKept
   kept-by area q e =
-      keep-same (isKept area image) (λ k. isHolder image k && q k) 1 count (λ k a b. rw (e k))
-      ∙ sym (keep-keep (isHolder image) q (numbersFrom 1 count)) ∙ ap (keep q) (sym used-holders)
+      keep-same (isKept area image) (λ k. isHolder image k && q k) 1 (log .used) (λ k a b. rw (e k))
+      ∙ sym (keep-keep (isHolder image) q (numbersFrom 1 (log .used))) ∙ ap (keep q) (sym used-holders)
 
   module _ (area : List ℕ) (blank : Blank area) where
-    pub kept-holders : map (blockAt image) (keptBlocks area image count) ≡ holders image
+    pub kept-holders : map (blockAt image) (keptBlocks area image (log .used)) ≡ holders image
     unfolding holders
     kept-holders = ap (map (blockAt image)) (kept-by area (λ k. true) (λ k. rw (blank (number (blockAt image k)))) ∙ keep-all (keep (isHolder image) (userBlocks (length image))))
 
-    pub kept-live : length (keptBlocks area image count) ≡ live image
+    pub kept-live : length (keptBlocks area image (log .used)) ≡ live image
     kept-live =
-        sym (length-map (keptBlocks area image count) (blockAt image)) ∙ ap (λ (l : List (List ℕ)). length l) kept-holders
+        sym (length-map (keptBlocks area image (log .used)) (blockAt image)) ∙ ap (λ (l : List (List ℕ)). length l) kept-holders
         ∙ sym (live-holders image (sound-measured image (u .is-sound)))

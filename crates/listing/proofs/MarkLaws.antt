@@ -20,6 +20,7 @@ use Rattle.flash_model.specs.Update.{isAt, isHolder}
 use Rattle.flash_model.proofs.MeasureLaws.{legal-below, measures-of}
 use Rattle.flash_model.proofs.HolderLaws.{matches}
 use Rattle.partition.specs.Usable.{Usable}
+use Rattle.partition.specs.declared.opening.Log.{Log}
 use Rattle.partition.proofs.UsableLaws.{usable-over, usable-measured, count-most, holder-some}
 use Rattle.listing.specs.Listing.{isNew, mark, isKept}
 use Rattle.listing.specs.Passing.{heldBy, PassAt}
@@ -41,13 +42,14 @@ new-free end block area e = eqb-true (getD area (number block) 0) 0 (and-true-ri
 
 -- ---- the pass
 
-pub pass-first : (area image : List ℕ) (size end used : ℕ) → Usable image size used → end ≡ capacity size → end ≤ length area → PassAt area image size end used
-pass-first area image size end used u c long = record {
-  is-over = usable-over image size used u;
+pub pass-first : {image : List ℕ} {log : Log} (area : List ℕ) (end : ℕ) → Usable image log → end ≡ capacity (log .m .size) → end ≤ length area
+    → PassAt area image (log .m .size) end (log .used)
+pass-first {image} {log} area end u c long = record {
+  is-over = usable-over u;
   end-is = c;
   long = long;
-  within = omega (arith, c, count-most image size used u);
-  unmarked = λ n h z. holder-some image size used u n (legal-below size n (usable-measured image size used u) ∙ lt-ltb n (capacity size) (omega (arith, h, c)));
+  within = omega (arith, c, count-most u);
+  unmarked = λ n h z. holder-some u n (legal-below (log .m .size) n (usable-measured u) ∙ lt-ltb n (capacity (log .m .size)) (omega (arith, h, c)));
 }
 
 not-above : (p : ℕ → Bool) (i k : ℕ) → i < k → isAt (highest p i) k ≡ false

@@ -19,6 +19,7 @@ use Rattle.flash_model.proofs.MeasureLaws.{legal-below}
 use Rattle.flash_model.proofs.HolderLaws.{matches}
 use Rattle.flash_model.proofs.MeaningLaws.{next-live, live-none}
 use Rattle.partition.specs.Usable.{Usable}
+use Rattle.partition.specs.declared.opening.Log.{Log}
 use Rattle.listing.specs.Listing.{lowered, asNext}
 use Rattle.partition.proofs.UsableLaws.{usable-measured, holder-some}
 
@@ -116,24 +117,24 @@ module _ (image : List ℕ) (start end k best : ℕ) (b : Best image start end k
 
 -- ---- what the blocks passed say of contents
 
-module _ (image : List ℕ) (size count : ℕ) (u : Usable image size count) (end : ℕ) (e : end ≡ capacity size) where
-  legal : (n : ℕ) → n < end → legalNumber size n ≡ true
-  legal n h = legal-below size n (usable-measured image size count u) ∙ lt-ltb n (capacity size) (omega (arith, h, e))
+module _ {image : List ℕ} {log : Log} (u : Usable image log) (end : ℕ) (e : end ≡ capacity (log .m .size)) where
+  legal : (n : ℕ) → n < end → legalNumber (log .m .size) n ≡ true
+  legal n h = legal-below (log .m .size) n (usable-measured u) ∙ lt-ltb n (capacity (log .m .size)) (omega (arith, h, e))
 
   -- a number that no used block matches has no contents
-  no-contents : (n : ℕ) → n < end → ((j : ℕ) → 1 ≤ j → j ≤ count → matches n (blockAt image j) ≡ false) → contents image n ≡ none
+  no-contents : (n : ℕ) → n < end → ((j : ℕ) → 1 ≤ j → j ≤ log .used → matches n (blockAt image j) ≡ false) → contents image n ≡ none
   unfolding contents
   no-contents n h none-match =
-      ap (Option·map (λ j. payload (blockAt image j))) (holder-some image size count u n (legal n h) ∙ highest-nothing (λ j. matches n (blockAt image j)) count none-match)
+      ap (Option·map (λ j. payload (blockAt image j))) (holder-some u n (legal n h) ∙ highest-nothing (λ j. matches n (blockAt image j)) (log .used) none-match)
 
-  has-contents : (k n : ℕ) → k ≤ count + 1 → n < end → Seen image k n → contents image n ≢ none
+  has-contents : (k n : ℕ) → k ≤ (log .used) + 1 → n < end → Seen image k n → contents image n ≢ none
   unfolding contents
-  has-contents k n f h s e = go (highest (λ j. matches n (blockAt image j)) count) refl
+  has-contents k n f h s e = go (highest (λ j. matches n (blockAt image j)) (log .used)) refl
     where
-      go : (o : Option ℕ) → highest (λ j. matches n (blockAt image j)) count ≡ o → ⊥
-      go none q = true≢false (sym (s .here) ∙ highest-none (λ j. matches n (blockAt image j)) count q (s .at) (s .low) (omega (arith, s .below, f)))
+      go : (o : Option ℕ) → highest (λ j. matches n (blockAt image j)) (log .used) ≡ o → ⊥
+      go none q = true≢false (sym (s .here) ∙ highest-none (λ j. matches n (blockAt image j)) (log .used) q (s .at) (s .low) (omega (arith, s .below, f)))
       go (some j) q =
-          let c : contents image n ≡ some (payload (blockAt image j)) = unfold contents in ap (Option·map (λ j. payload (blockAt image j))) (holder-some image size count u n (legal n h) ∙ q) in
+          let c : contents image n ≡ some (payload (blockAt image j)) = unfold contents in ap (Option·map (λ j. payload (blockAt image j))) (holder-some u n (legal n h) ∙ q) in
           let z : _≡_ {A = ℕ} 0 1 = cc in
           omega arith
 
@@ -142,7 +143,7 @@ module _ (image : List ℕ) (size count : ℕ) (u : Usable image size count) (en
   next-past start h = ap asNext (sym (live-none image start (λ n a c. absurd (omega (arith, a, c, h, e, ap capacity (u .has-size))))))
 
   -- the start itself is found
-  pub next-start : (start k best : ℕ) → start < end → k ≤ count + 1 → best ≡ start → Best image start end k best
+  pub next-start : (start k best : ℕ) → start < end → k ≤ (log .used) + 1 → best ≡ start → Best image start end k best
       → asNext (some start) ≡ asNext (lowestLive image start)
   next-start start k best h f q b =
       ap asNext (sym (next-live image start start (u .is-sound) .1 (record {
@@ -152,7 +153,7 @@ module _ (image : List ℕ) (size count : ℕ) (u : Usable image size count) (en
       })))
 
   -- all used blocks are passed
-  module _ (start k best : ℕ) (f : k ≡ count + 1) (b : Best image start end k best) where
+  module _ (start k best : ℕ) (f : k ≡ (log .used) + 1) (b : Best image start end k best) where
     lower-none : (n : ℕ) → start ≤ n → n < best → contents image n ≡ none
     lower-none n a c = no-contents n (omega (arith, c, b .bound)) (λ j lo hi. b .none-lower n j a c lo (omega (arith, hi, f)))
 

@@ -3,6 +3,7 @@ use measures::Measures;
 use measures::NUMBERS;
 use partition::blocks::part_from;
 use partition::blocks::right_checksum;
+use partition::opening::Log;
 use words::word;
 ghost use mathlib.Core.Path.{_≡_};
 ghost use mathlib.Core.Bool.{true, false};
@@ -91,18 +92,18 @@ fn pass_known(image: &[u8], m: Measures, end: usize, area: &[u8], from: usize) -
 
 // How many numbers have contents. Blocks go in falling order, so the first of a number that has a right checksum is the one, and
 // no checksum is worked for an older copy.
-pub fn count_live(image: &[u8], m: Measures, used: usize) -> usize
-    requires { ⌜ Usable (now image) (m .size) used ⌝ }
+pub fn count_live(image: &[u8], log: Log) -> usize
+    requires { ⌜ Usable (now image) log ⌝ }
     ensures { λ r. ⌜ r ≡ live (now (image .entry)) ⌝ }
 {
     let mut area = [0u8; NUMBERS];
-    let end = m.capacity();
+    let end = log.m.capacity();
     let mut count: usize = 0;
-    let mut k = used;
+    let mut k = log.used;
     while 0 < k {
-        let run = count_run(image, m, end, &mut area, k);
+        let run = count_run(image, log.m, end, &mut area, k);
         count += run.count;
-        k = pass_known(image, m, end, &area, run.at);
+        k = pass_known(image, log.m, end, &area, run.at);
     }
     count
 }
@@ -142,19 +143,19 @@ fn list_run(
 
 // Lists at the end of `kept`, rising, the physical block of the contents of each number that the area has no mark for, and counts
 // these.
-pub fn list_kept(image: &[u8], m: Measures, used: usize, area: &mut [u8], kept: &mut [u16]) -> usize
-    requires { ⌜ Usable (now image) (m .size) used ⌝ }
-    requires { ⌜ (capacity (m .size) ≤ length (now area)) × (capacity (m .size) ≤ length (now kept)) ⌝ }
-    ensures { λ r. ⌜ r ≤ used ⌝ }
-    ensures { λ r. ⌜ drop (length (now (kept .entry)) - r) (now (kept .exit)) ≡ keptBlocks (now (area .entry)) (now (image .entry)) used ⌝ }
+pub fn list_kept(image: &[u8], log: Log, area: &mut [u8], kept: &mut [u16]) -> usize
+    requires { ⌜ Usable (now image) log ⌝ }
+    requires { ⌜ (capacity (log .m .size) ≤ length (now area)) × (capacity (log .m .size) ≤ length (now kept)) ⌝ }
+    ensures { λ r. ⌜ r ≤ log .used ⌝ }
+    ensures { λ r. ⌜ drop (length (now (kept .entry)) - r) (now (kept .exit)) ≡ keptBlocks (now (area .entry)) (now (image .entry)) (log .used) ⌝ }
 {
-    let end = m.capacity();
+    let end = log.m.capacity();
     let mut count: usize = 0;
-    let mut k = used;
+    let mut k = log.used;
     while 0 < k {
-        let run = list_run(image, m, end, area, kept, count, k);
+        let run = list_run(image, log.m, end, area, kept, count, k);
         count = run.count;
-        k = pass_known(image, m, end, &area[..], run.at);
+        k = pass_known(image, log.m, end, &area[..], run.at);
     }
     count
 }
@@ -177,18 +178,19 @@ fn lower(part: &[u8], start: usize, best: usize) -> usize
 }
 
 // The lowest live number not below the start. None is lower than the start itself, so the pass ends where that is found.
-pub fn next_number(image: &[u8], m: Measures, used: usize, start: usize) -> Next
-    requires { ⌜ Usable (now image) (m .size) used ⌝ }
+pub fn next_number(image: &[u8], log: Log, start: usize) -> Next
+    requires { ⌜ Usable (now image) log ⌝ }
     ensures { λ r. ⌜ r ≡ asNext (lowestLive (now (image .entry)) start) ⌝ }
 {
-    let end = m.capacity();
+    let end = log.m.capacity();
     if end <= start {
         return Next::Nothing;
     }
+    let used = log.used;
     let mut best = end;
     let mut k: usize = 1;
     while k <= used {
-        best = lower(part_from(image, m, k), start, best);
+        best = lower(part_from(image, log.m, k), start, best);
         if best == start {
             return Next::Number(start);
         }

@@ -17,6 +17,7 @@ use Rattle.bitmap.specs.Found.{asFound}
 use Rattle.bitmap.specs.declared.Found.the-variants.{At, Nothing}
 use Rattle.bitmap.proofs.FoundLaws.{found-at, found-nothing}
 use Rattle.partition.specs.Usable.{Usable}
+use Rattle.partition.specs.declared.opening.Log.{Log}
 use Rattle.pages.specs.Rows.{readRest, readBuffer}
 
 -- ---- a number's contents
@@ -29,8 +30,8 @@ pub contents-none : (image : List ℕ) (n : ℕ) → asFound (holder image n) �
 unfolding contents
 contents-none image n e = ap (Option·map (λ j. payload (blockAt image j))) (found-nothing (holder image n) e)
 
-pub found-high : (image : List ℕ) (size count : ℕ) → Usable image size count → (n k : ℕ) → asFound (holder image n) ≡ At k → k ≤ capacity size
-found-high image size count u n k e =
+pub found-high : {image : List ℕ} {log : Log} → Usable image log → (n k : ℕ) → asFound (holder image n) ≡ At k → k ≤ capacity (log .m .size)
+found-high {image} u n k e =
     omega (arith, holder-held image n k (found-at (holder image n) k e) .highest-one .high, ap capacity (u .has-size))
 
 -- the payload is handed on from the part that begins with the block
@@ -41,7 +42,7 @@ payload-part part block e =
 
 -- ---- read
 
-module _ (image : List ℕ) (size count : ℕ) (u : Usable image size count) (n : ℕ) (buffer : List ℕ) where
+module _ {image : List ℕ} {log : Log} (u : Usable image log) (n : ℕ) (buffer : List ℕ) where
   pub record ReadAs (code : ℕ) (left : List ℕ) : Type 0 where
     pub code-is : code ≡ readRest image n buffer
     pub buffer-is : left ≡ readBuffer image n buffer
@@ -50,14 +51,14 @@ module _ (image : List ℕ) (size count : ℕ) (u : Usable image size count) (n 
   unfolding readBuffer
   refused c e = record { code-is = sym e; buffer-is = rw (e, ne-eqb (suc c) 0 (λ z. omega (arith, z))) }
 
-  here : (b : Bool) → legalNumber size n ≡ b → legalNumber (length image) n ≡ b
+  here : (b : Bool) → legalNumber (log .m .size) n ≡ b → legalNumber (length image) n ≡ b
   here b e = ap (λ (s : ℕ). legalNumber s n) (u .has-size) ∙ e
 
-  pub read-6 : legalNumber size n ≡ false → ReadAs 6 buffer
+  pub read-6 : legalNumber (log .m .size) n ≡ false → ReadAs 6 buffer
   unfolding readRest
   read-6 e = refused 5 (rw (here false e))
 
-  module _ (legal : legalNumber size n ≡ true) where
+  module _ (legal : legalNumber (log .m .size) n ≡ true) where
     pub read-8 : (length buffer ≡ 60 → ⊥) → ReadAs 8 buffer
     unfolding readRest
     read-8 h = refused 7 (rw (here true legal, ne-eqb (length buffer) 60 h))

@@ -25,6 +25,7 @@ use Rattle.flash_model.proofs.MeaningLaws.{contents-length}
 use Rattle.bitmap.specs.Found.{asFound}
 use Rattle.bitmap.specs.declared.Found.the-variants.{At, Nothing}
 use Rattle.partition.specs.Usable.{Usable}
+use Rattle.partition.specs.declared.opening.Log.{Log}
 use Rattle.pages.specs.Rows.{canAppend, wrongLengths, saveRest}
 use Rattle.pages.proofs.ReadLaws.{contents-at, contents-none}
 
@@ -45,7 +46,7 @@ module _ (expected page : List ℕ) where
 
 -- ---- row 9
 
-module _ (image : List ℕ) (size count : ℕ) (u : Usable image size count) (n : ℕ) (expected : List ℕ) where
+module _ {image : List ℕ} {log : Log} (u : Usable image log) (n : ℕ) (expected : List ℕ) where
   none-expected : length expected ≡ 0 → contents image n ≡ none → 0 ≡ row 9 (changedSince image n expected) 0
   unfolding changedSince
   none-expected e c = rw (c, e)
@@ -76,50 +77,55 @@ module _ (image : List ℕ) (size count : ℕ) (u : Usable image size count) (n 
 
 -- ---- the way a save takes
 
-module _ (image : List ℕ) (size count : ℕ) (u : Usable image size count) where
-  free-next : count < capacity size → lowestFree image ≡ some (suc count)
+module _ {image : List ℕ} {log : Log} (u : Usable image log) where
+  -- the block behind the used ones is free
+  pub free-behind : (k : ℕ) → k ≡ suc (log .used) → k ≤ capacity (log .m .size) → allocated image k ≡ false
+  free-behind k n h =
+      allocated-used image (u .is-sound) k (omega arith) (omega (arith, h, ap capacity (u .has-size))) ∙ lt-leb k (used image) (omega (arith, n, u .used-is))
+
+  free-next : log .used < capacity (log .m .size) → lowestFree image ≡ some (suc (log .used))
   unfolding lowestFree lowestFreeIn allocated
   free-next h =
-      let cap : capacity (length image) ≡ capacity size = ap capacity (u .has-size) in
-      lowest-is (λ j. not (allocatedIn (bitmapOf image) j)) 1 (capacity (length image)) (suc count) (record {
+      let cap : capacity (length image) ≡ capacity (log .m .size) = ap capacity (u .has-size) in
+      lowest-is (λ j. not (allocatedIn (bitmapOf image) j)) 1 (capacity (length image)) (suc (log .used)) (record {
         low = omega arith;
         high = omega (arith, h, cap);
-        passes = ap not (allocated-used image (u .is-sound) (suc count) (omega arith) (omega (arith, h, cap)) ∙ lt-leb (suc count) (used image) (omega (arith, u .used-is)));
+        passes = ap not (free-behind (suc (log .used)) refl h);
         none-below = λ j a b. ap not (allocated-used image (u .is-sound) j a (omega (arith, b, h, cap)) ∙ le-leb j (used image) (omega (arith, b, u .used-is)));
       })
 
-  free-none : capacity size ≤ count → lowestFree image ≡ none
+  free-none : capacity (log .m .size) ≤ log .used → lowestFree image ≡ none
   unfolding lowestFree lowestFreeIn allocated
   free-none h =
-      let cap : capacity (length image) ≡ capacity size = ap capacity (u .has-size) in
+      let cap : capacity (length image) ≡ capacity (log .m .size) = ap capacity (u .has-size) in
       lowest-nothing (λ j. not (allocatedIn (bitmapOf image) j)) 1 (capacity (length image))
       (λ j a b. ap not (allocated-used image (u .is-sound) j a (omega (arith, b)) ∙ le-leb j (used image) (omega (arith, b, h, cap, u .used-is))))
 
-  pub append-full : capacity size ≤ count → false ≡ canAppend (appendBlock image)
+  pub append-full : capacity (log .m .size) ≤ log .used → false ≡ canAppend (appendBlock image)
   unfolding appendBlock
   append-full h = rw (free-none h)
 
-  pub append-blank-block : count < capacity size → (k : ℕ) → k ≡ suc count → (same : Bool) (block : List ℕ) → block ≡ blockAt image k → same ≡ sameBytes block (replicate 64 255)
+  pub append-blank-block : log .used < capacity (log .m .size) → (k : ℕ) → k ≡ suc (log .used) → (same : Bool) (block : List ℕ) → block ≡ blockAt image k → same ≡ sameBytes block (replicate 64 255)
       → same ≡ canAppend (appendBlock image)
   unfolding appendBlock
-  append-blank-block h k n same block b e = e ∙ rw (b, n, free-next h) (go (sameBytes (blockAt image (suc count)) (replicate 64 255)))
+  append-blank-block h k n same block b e = e ∙ rw (b, n, free-next h) (go (sameBytes (blockAt image (suc (log .used))) (replicate 64 255)))
     where
-      go : (t : Bool) → t ≡ isSome (cond t (some (suc count)) none)
+      go : (t : Bool) → t ≡ isSome (cond t (some (suc (log .used))) none)
       go true = refl
       go false = refl
 
   -- where it can append, it does so behind the used blocks
-  pub appends : true ≡ canAppend (appendBlock image) → (suc count ≤ capacity size) × (appendBlock image ≡ some (suc count))
+  pub appends : true ≡ canAppend (appendBlock image) → (suc (log .used) ≤ capacity (log .m .size)) × (appendBlock image ≡ some (suc (log .used)))
   appends e = go (appendBlock image) refl e
     where
-      go : (o : Option ℕ) → appendBlock image ≡ o → true ≡ canAppend o → (suc count ≤ capacity size) × (appendBlock image ≡ some (suc count))
+      go : (o : Option ℕ) → appendBlock image ≡ o → true ≡ canAppend o → (suc (log .used) ≤ capacity (log .m .size)) × (appendBlock image ≡ some (suc (log .used)))
       go none q f = absurd (true≢false f)
       go (some k) q f =
           let b = append-blank image k q in
-          let d : k ≡ suc count = blank-used image (u .is-sound) k b ∙ ap suc (sym (u .used-is)) in
+          let d : k ≡ suc (log .used) = blank-used image (u .is-sound) k b ∙ ap suc (sym (u .used-is)) in
           (omega (arith, d, b .high, ap capacity (u .has-size)), q ∙ ap (λ (i : ℕ). some i) d)
 
-  pub saved-append : true ≡ canAppend (appendBlock image) → (n k : ℕ) (page : List ℕ) → k ≡ suc count → appended image k (newBlock n page) ≡ saved image n page
+  pub saved-append : true ≡ canAppend (appendBlock image) → (n k : ℕ) (page : List ℕ) → k ≡ suc (log .used) → appended image k (newBlock n page) ≡ saved image n page
   unfolding saved
   saved-append e n k page f = rw (f, appends e .1)
 
@@ -133,7 +139,7 @@ module _ (image : List ℕ) (size count : ℕ) (u : Usable image size count) whe
 
 -- ---- the rows of a save
 
-module _ (image : List ℕ) (size count : ℕ) (u : Usable image size count) (n : ℕ) (expected page : List ℕ) where
+module _ {image : List ℕ} {log : Log} (u : Usable image log) (n : ℕ) (expected page : List ℕ) where
   pub record SaveAs (code : ℕ) (image′ : List ℕ) : Type 0 where
     pub code-is : code ≡ saveRest image n expected page
     pub image-is : image′ ≡ cond (eqb (saveRest image n expected page) 0) (saved image n page) image
@@ -141,14 +147,14 @@ module _ (image : List ℕ) (size count : ℕ) (u : Usable image size count) (n 
   refused : (c : ℕ) → (c ≡ 0 → ⊥) → c ≡ saveRest image n expected page → SaveAs c image
   refused c h e = record { code-is = e; image-is = rw (sym e, ne-eqb c 0 h) }
 
-  here : (b : Bool) → legalNumber size n ≡ b → legalNumber (length image) n ≡ b
+  here : (b : Bool) → legalNumber (log .m .size) n ≡ b → legalNumber (length image) n ≡ b
   here b e = ap (λ (s : ℕ). legalNumber s n) (u .has-size) ∙ e
 
-  pub save-6 : legalNumber size n ≡ false → SaveAs 6 image
+  pub save-6 : legalNumber (log .m .size) n ≡ false → SaveAs 6 image
   unfolding saveRest
   save-6 e = refused 6 (λ z. omega (arith, z)) (rw (here false e))
 
-  module _ (legal : legalNumber size n ≡ true) where
+  module _ (legal : legalNumber (log .m .size) n ≡ true) where
     pub save-8 : wrongLengths expected page ≡ true → SaveAs 8 image
     unfolding saveRest
     save-8 e = refused 8 (λ z. omega (arith, z)) (rw (here true legal, e))

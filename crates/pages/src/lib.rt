@@ -2,9 +2,9 @@
 use bitmap::Found;
 use journal::copy_page;
 use loads::little8;
-use measures::Measures;
 use partition::blocks::find;
 use partition::blocks::part_from;
+use partition::opening::Log;
 use words::same;
 ghost use mathlib.Core.Path.{_≡_};
 ghost use mathlib.Core.Bool.{true, cond};
@@ -20,21 +20,21 @@ ghost use Rattle.partition.specs.Usable.{Usable};
 ghost use Rattle.pages.specs.Rows.{readRest, readBuffer, wrongLengths, saveRest, canAppend};
 
 // Reads the contents of a number into the page: refusals 6, 8 and 7, or 0.
-pub fn read_page(image: &[u8], m: Measures, used: usize, number: usize, page: &mut [u8]) -> u8
-    requires { ⌜ Usable (now image) (m .size) used ⌝ }
+pub fn read_page(image: &[u8], log: Log, number: usize, page: &mut [u8]) -> u8
+    requires { ⌜ Usable (now image) log ⌝ }
     ensures { λ r. ⌜ r ≡ readRest (now (image .entry)) number (now (page .entry)) ⌝ }
     ensures { λ _. ⌜ now (page .exit) ≡ readBuffer (now (image .entry)) number (now (page .entry)) ⌝ }
 {
-    if !m.legal_number(number) {
+    if !log.m.legal_number(number) {
         return 6;
     }
     if page.len() != 60 {
         return 8;
     }
-    let Found::At(k) = find(image, m, used, number) else {
+    let Found::At(k) = find(image, log, number) else {
         return 7;
     };
-    let block = part_from(image, m, k);
+    let block = part_from(image, log.m, k);
     copy_page(&block[2..62], page);
     0
 }
@@ -71,12 +71,12 @@ fn same_page(page: &[u8], other: &[u8]) -> bool
 }
 
 // 9 where the contents of the number are not what is expected, 0 bytes being nothing; else 0.
-fn changed(image: &[u8], m: Measures, used: usize, number: usize, expected: &[u8]) -> u8
-    requires { ⌜ Usable (now image) (m .size) used ⌝ }
-    requires { ⌜ legalNumber (m .size) number ≡ true ⌝ }
+fn changed(image: &[u8], log: Log, number: usize, expected: &[u8]) -> u8
+    requires { ⌜ Usable (now image) log ⌝ }
+    requires { ⌜ legalNumber (log .m .size) number ≡ true ⌝ }
     ensures { λ r. ⌜ r ≡ row 9 (changedSince (now (image .entry)) number (now (expected .entry))) 0 ⌝ }
 {
-    let found = find(image, m, used, number);
+    let found = find(image, log, number);
     if expected.len() == 0 {
         let Found::Nothing = found else {
             return 9;
@@ -86,7 +86,7 @@ fn changed(image: &[u8], m: Measures, used: usize, number: usize, expected: &[u8
     let Found::At(k) = found else {
         return 9;
     };
-    let block = part_from(image, m, k);
+    let block = part_from(image, log.m, k);
     if same_page(&block[2..62], expected) {
         return 0;
     }
@@ -94,53 +94,46 @@ fn changed(image: &[u8], m: Measures, used: usize, number: usize, expected: &[u8
 }
 
 // Whether a free user block exists and the lowest free one holds 64 bytes of FF.
-fn can_append(image: &[u8], m: Measures, used: usize) -> bool
-    requires { ⌜ Usable (now image) (m .size) used ⌝ }
+fn can_append(image: &[u8], log: Log) -> bool
+    requires { ⌜ Usable (now image) log ⌝ }
     ensures { λ r. ⌜ r ≡ canAppend (appendBlock (now (image .entry))) ⌝ }
 {
-    if m.capacity() <= used {
+    if log.m.capacity() <= log.used {
         return false;
     }
-    let block = part_from(image, m, used + 1);
+    let block = part_from(image, log.m, log.used + 1);
     same(&block[0..64], &[255u8; 64])
 }
 
 // The accepted save: an append where it can be had, else a compaction.
-fn store(image: &mut [u8], m: Measures, used: usize, number: usize, page: &[u8])
-    requires { ⌜ Usable (now image) (m .size) used ⌝ }
-    requires { ⌜ (number ≤ topNumber (m .size)) × (length (now page) ≡ 60) ⌝ }
+fn store(image: &mut [u8], log: Log, number: usize, page: &[u8])
+    requires { ⌜ Usable (now image) log ⌝ }
+    requires { ⌜ (number ≤ topNumber (log .m .size)) × (length (now page) ≡ 60) ⌝ }
     ensures { λ _. ⌜ now (image .exit) ≡ saved (now (image .entry)) number (now (page .entry)) ⌝ }
 {
-    if can_append(&image[..], m, used) {
-        journal::append(image, m, used + 1, number, page);
+    if can_append(&image[..], log) {
+        journal::append(image, log.m, log.used + 1, number, page);
         return;
     }
-    compaction::compact(image, m, used, number, page);
+    compaction::compact(image, log, number, page);
 }
 
 // Saves a page as the contents of a number: refusals 6, 8 and 9, or 0.
-pub fn save_page(
-    image: &mut [u8],
-    m: Measures,
-    used: usize,
-    number: usize,
-    expected: &[u8],
-    page: &[u8],
-) -> u8
-    requires { ⌜ Usable (now image) (m .size) used ⌝ }
+pub fn save_page(image: &mut [u8], log: Log, number: usize, expected: &[u8], page: &[u8]) -> u8
+    requires { ⌜ Usable (now image) log ⌝ }
     ensures { λ r. ⌜ r ≡ saveRest (now (image .entry)) number (now (expected .entry)) (now (page .entry)) ⌝ }
     ensures { λ _. ⌜ now (image .exit) ≡ cond (eqb (saveRest (now (image .entry)) number (now (expected .entry)) (now (page .entry))) 0) (saved (now (image .entry)) number (now (page .entry))) (now (image .entry)) ⌝ }
 {
-    if !m.legal_number(number) {
+    if !log.m.legal_number(number) {
         return 6;
     }
     if wrong_lengths(expected, page) {
         return 8;
     }
-    let refused = changed(&image[..], m, used, number, expected);
+    let refused = changed(&image[..], log, number, expected);
     if refused != 0 {
         return refused;
     }
-    store(image, m, used, number, page);
+    store(image, log, number, page);
     0
 }

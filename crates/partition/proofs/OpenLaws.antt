@@ -19,7 +19,8 @@ use Rattle.flash_model.proofs.SequenceLaws.{UpTo, up-to-one, passes-below}
 use Rattle.flash_model.proofs.SoundLaws.{used-most, order-used, up-to-order}
 use Rattle.bitmap.specs.Over.{Over}
 use Rattle.bitmap.specs.Found.{lowestAllocated}
-use Rattle.partition.specs.Opening.{headerRefusal, openingOf}
+use Rattle.measures.specs.declared.Measures.{Measures}
+use Rattle.partition.specs.Opening.{headerRefusal, logOf, openingOf}
 use Rattle.partition.specs.declared.opening.Opened.the-variants.{Refused, Open}
 
 module _ (image : List ℕ) (partition : ℕ) where
@@ -70,18 +71,20 @@ module _ (image : List ℕ) (partition : ℕ) where
     cap : ℕ
     cap = capacity (length image)
 
-    whole : (n : ℕ) → n ≤ cap → UpTo (allocated image) cap n → Open n ≡ openingOf image partition
-    unfolding openingOf rest cap
-    whole n h b =
+    whole : (m : Measures) → m .size ≡ length image → (n : ℕ) → n ≤ cap → UpTo (allocated image) cap n → Open (record { m = m; used = n }) ≡ openingOf image partition
+    unfolding openingOf logOf rest cap
+    whole m s n h b =
         let order = up-to-order image n b in
         let count : used image ≡ n = up-to-one (allocated image) cap (used image) n (order-used image order) b (used-most image) h in
         let r : refusal image partition ≡ 0 = rest-is ∙ rw order in
-        rw (r, count)
+        rw (r, count) (ap (λ (i : ℕ). Open (record { m = record { size = i }; used = n })) s)
 
     -- no block is free
-    pub open-full : lowestFree image ≡ none → (n : ℕ) → n ≡ capacity (length image) → Open n ≡ openingOf image partition
+    pub open-full : lowestFree image ≡ none → (m : Measures) → m .size ≡ length image → (n : ℕ) → n ≡ capacity (m .size) → Open (record { m = m; used = n }) ≡ openingOf image partition
     unfolding lowestFree lowestFreeIn allocated cap
-    open-full e n f = whole n (omega arith) (λ k lo hi. not-false (allocated image k) (lowest-none (λ j. not (allocated image j)) 1 cap e k lo (omega arith)) ∙ sym (le-leb k n (omega arith)))
+    open-full e m s n f =
+        let all : n ≡ cap = f ∙ ap capacity s in
+        whole m s n (omega arith) (λ k lo hi. not-false (allocated image k) (lowest-none (λ j. not (allocated image j)) 1 cap e k lo (omega arith)) ∙ sym (le-leb k n (omega arith)))
 
     -- block k is the lowest free one
     module _ (k : ℕ) (e : lowestFree image ≡ some k) where
@@ -109,9 +112,9 @@ module _ (image : List ℕ) (partition : ℕ) where
               let below = passes-below (allocated image) cap (used image) (order-used image q) k j free-low (omega (arith, behind .low, other)) (omega (arith, behind .high, free-first .high, open-measured .first-bitmap)) (behind .passes) in
               absurd (true≢false (sym below ∙ free))
 
-      pub open-free : lowestAllocated image k ≡ none → Open (k - 1) ≡ openingOf image partition
+      pub open-free : lowestAllocated image k ≡ none → (m : Measures) → m .size ≡ length image → Open (record { m = m; used = k - 1 }) ≡ openingOf image partition
       unfolding lowestAllocated cap
-      open-free f = whole (k - 1) (omega (arith, free-first .high)) (λ j lo hi. go j lo hi (decLe k j))
+      open-free f m s = whole m s (k - 1) (omega (arith, free-first .high)) (λ j lo hi. go j lo hi (decLe k j))
         where
           go : (j : ℕ) → 1 ≤ j → j ≤ cap → Dec (k ≤ j) → allocated image j ≡ leb j (k - 1)
           go j lo hi (yes d) =

@@ -14,14 +14,15 @@ use Rattle.flash_model.proofs.HolderLaws.{matches}
 use Rattle.bitmap.specs.Found.{asFound}
 use Rattle.bitmap.specs.declared.Found.the-variants.{At, Nothing}
 use Rattle.partition.specs.Usable.{Usable}
+use Rattle.partition.specs.declared.opening.Log.{Log}
 use Rattle.partition.specs.Search.{foundUpTo}
 use Rattle.partition.proofs.PartLaws.{number-front}
 use Rattle.partition.proofs.UsableLaws.{holder-some}
 
-pub from-used : (image : List ℕ) (size count : ℕ) → Usable image size count → (n : ℕ) → legalNumber size n ≡ true
-    → asFound (holder image n) ≡ foundUpTo image n count
+pub from-used : {image : List ℕ} {log : Log} → Usable image log → (n : ℕ) → legalNumber (log .m .size) n ≡ true
+    → asFound (holder image n) ≡ foundUpTo image n (log .used)
 unfolding foundUpTo
-from-used image size count u n legal = ap asFound (holder-some image size count u n legal)
+from-used u n legal = ap asFound (holder-some u n legal)
 
 module _ (image : List ℕ) (n k : ℕ) where
   pub found-here : 0 < k → matches n (blockAt image k) ≡ true → foundUpTo image n k ≡ At k

@@ -12,21 +12,22 @@ use Rattle.flash_model.proofs.SoundLaws.{tests-of, used-most, allocated-used}
 use Rattle.flash_model.proofs.HolderLaws.{matches, holder-used}
 use Rattle.bitmap.specs.Over.{Over}
 use Rattle.partition.specs.Usable.{Usable}
+use Rattle.partition.specs.declared.opening.Log.{Log}
 
-module _ (image : List ℕ) (size count : ℕ) (u : Usable image size count) where
-  pub usable-legal : legalSize size ≡ true
+module _ {image : List ℕ} {log : Log} (u : Usable image log) where
+  pub usable-legal : legalSize (log .m .size) ≡ true
   usable-legal = subst (λ (n : ℕ). legalSize n ≡ true) (u .has-size) (tests-of image (u .is-sound) .legal)
 
-  pub usable-over : Over image size
+  pub usable-over : Over image (log .m .size)
   usable-over = record { has-size = u .has-size; is-legal = usable-legal }
 
-  pub usable-measured : Measured size
-  usable-measured = measures-of size usable-legal
+  pub usable-measured : Measured (log .m .size)
+  usable-measured = measures-of (log .m .size) usable-legal
 
-  pub count-most : count ≤ capacity size
+  pub count-most : log .used ≤ capacity (log .m .size)
   count-most = omega (arith, u .used-is, used-most image, ap capacity (u .has-size))
 
-  pub holder-some : (n : ℕ) → legalNumber size n ≡ true → holder image n ≡ highest (λ k. matches n (blockAt image k)) count
+  pub holder-some : (n : ℕ) → legalNumber (log .m .size) n ≡ true → holder image n ≡ highest (λ k. matches n (blockAt image k)) (log .used)
   holder-some n e =
       holder-used image n (used image) (used-most image) (allocated-used image (u .is-sound))
       ∙ rw (sym (u .used-is), u .has-size, e)

@@ -1,4 +1,4 @@
--- What opening an image answers: document 01's refusals 1 to 5, or the count of used blocks.
+-- What opening an image answers: document 01's refusals 1 to 5, or the measures and the count of used blocks.
 -- Assumes nothing.
 use Prim.Native.Nat.{ℕ}
 use mathlib.Core.Bool.{not, cond}
@@ -8,6 +8,7 @@ use lib.ListN.{length, take}
 use Rattle.words.specs.Words.{sameBytes}
 use Rattle.flash_model.specs.Measures.{legalSize}
 use Rattle.flash_model.specs.Partition.{magic, headerNumber, version, row, refusal, used}
+use Rattle.partition.specs.declared.opening.Log.{Log}
 use Rattle.partition.specs.declared.opening.Opened.{Opened}
 use Rattle.partition.specs.declared.opening.Opened.the-variants.{Refused, Open}
 
@@ -19,5 +20,9 @@ headerRefusal image partition =
     (row 3 (not (eqb (headerNumber image) partition))
     (row 4 (ltb 1 (version image)) 0)))
 
+-- What the opening of a sound partition hands on.
+unfoldable pub logOf : List ℕ → Log
+logOf image = record { m = record { size = length image }; used = used image }
+
 unfoldable pub openingOf : List ℕ → ℕ → Opened
-openingOf image partition = cond (eqb (refusal image partition) 0) (Open (used image)) (Refused (refusal image partition))
+openingOf image partition = cond (eqb (refusal image partition) 0) (Open (logOf image)) (Refused (refusal image partition))

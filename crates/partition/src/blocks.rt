@@ -1,4 +1,5 @@
 // User blocks, each read from the part of the image that begins with it, and the search for a number's contents.
+use crate::opening::Log;
 use bitmap::Found;
 use measures::BLOCK;
 use measures::Measures;
@@ -83,18 +84,18 @@ fn numbered(image: &[u8], m: Measures, top: usize, number: usize) -> usize
 
 // The block that holds the contents of a number, searched from the highest used block down. A checksum is worked only for the
 // number asked. Callers have tested the number, so that this is small enough to be compiled into them.
-pub fn find(image: &[u8], m: Measures, used: usize, number: usize) -> Found
-    requires { ⌜ Usable (now image) (m .size) used ⌝ }
-    requires { ⌜ legalNumber (m .size) number ≡ true ⌝ }
+pub fn find(image: &[u8], log: Log, number: usize) -> Found
+    requires { ⌜ Usable (now image) log ⌝ }
+    requires { ⌜ legalNumber (log .m .size) number ≡ true ⌝ }
     ensures { λ r. ⌜ r ≡ asFound (holder (now (image .entry)) number) ⌝ }
 {
-    let mut k = used;
+    let mut k = log.used;
     while 0 < k {
-        let at = numbered(image, m, k, number);
+        let at = numbered(image, log.m, k, number);
         if at == 0 {
             return Found::Nothing;
         }
-        if right_checksum(part_from(image, m, at)) {
+        if right_checksum(part_from(image, log.m, at)) {
             return Found::At(at);
         }
         k = at - 1;

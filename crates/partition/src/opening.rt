@@ -5,10 +5,15 @@ use words::same;
 ghost use mathlib.Core.Path.{_≡_};
 ghost use Rattle.partition.specs.Opening.{headerRefusal, openingOf};
 
-// The refusal's number, or how many user blocks are allocated.
+// What the opening of a sound partition found: its measures, and how many user blocks are allocated.
+pub struct Log {
+    pub m: Measures,
+    pub used: usize,
+}
+
 pub enum Opened {
     Refused(u8),
-    Open(usize),
+    Open(Log),
 }
 
 // Refusals 1 to 4, or 0.
@@ -41,10 +46,13 @@ pub fn open(image: &[u8], partition: u8) -> Opened
     }
     let m = Measures::of(image.len());
     let Found::At(free) = bitmap::lowest_free(image, m) else {
-        return Opened::Open(m.capacity());
+        return Opened::Open(Log {
+            m,
+            used: m.capacity(),
+        });
     };
     let Found::Nothing = bitmap::lowest_allocated(image, m, free) else {
         return Opened::Refused(5);
     };
-    Opened::Open(free - 1)
+    Opened::Open(Log { m, used: free - 1 })
 }

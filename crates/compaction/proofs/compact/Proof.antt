@@ -14,15 +14,14 @@ use Rattle.compaction.proofs.compact.Tie as tie
 -- the saved number has its place in the area
 inside : (a : tie.Start) → a .args .number < 1021
 inside a =
-    let i = a .args .image .now in
-    let s = a .args .m .size in
-    omega (arith, number-low i s (a .args .used) (a .pre .0) (a .args .number) (a .pre .1 .0), numbers-enough s (usable-legal i s (a .args .used) (a .pre .0)))
+    let s = a .args .log .m .size in
+    omega (arith, number-low (a .pre .0) (a .args .number) (a .pre .1 .0), numbers-enough s (usable-legal (a .pre .0)))
 
 -- there is room for its block
-room : (k : tie.After-keep-contents) → k .keep-contents .result ≤ capacity (k .before .before .before .before .before .args .m .size)
+room : (k : tie.After-keep-contents) → k .keep-contents .result ≤ capacity (k .before .before .before .before .before .args .log .m .size)
 room k =
     let a = k .before .before .before .before .before in
-    others-high (a .args .image .now) (a .args .m .size) (a .args .used) (a .pre .0) blankArea new-area _ (k .keep-contents .result) (a .args .number) (a .args .page .now) (a .pre .1 .0) (a .pre .1 .1) (inside a)
+    others-high (a .pre .0) blankArea new-area _ (k .keep-contents .result) (a .args .number) (a .args .page .now) (a .pre .1 .0) (a .pre .1 .1) (inside a)
     _ (k .keep-contents .ensures) refl
 
 array-write-area : tie.Need-array-write-area
@@ -34,14 +33,13 @@ slice-aggregate-keep-contents c = search needs
 keep-contents-requires : tie.Need-keep-contents-requires
 keep-contents-requires c κs =
     let a = c .before .before .before .before in
-    (a .pre .0, simp length-set (numbers-enough (a .args .m .size) (usable-legal (a .args .image .now) (a .args .m .size) (a .args .used) (a .pre .0))))
+    (a .pre .0, simp length-set (numbers-enough (a .args .log .m .size) (usable-legal (a .pre .0))))
 
 put-block-requires : tie.Need-put-block-requires
 put-block-requires c κs =
     let k = c .before .before .before .before in
     let a = k .before .before .before .before .before in
-    let i = a .args .image .now in
-    let o = usable-over i (a .args .m .size) (a .args .used) (a .pre .0) in (
+    let o = usable-over (a .pre .0) in (
       record { has-size = k .keep-contents .kept .0 ∙ o .has-size; is-legal = o .is-legal },
       (omega (arith, room k, k .keep-contents .ensures .next-is), a .pre .1 .1, omega (arith, inside a)),
     )
@@ -50,14 +48,14 @@ add-finish : tie.Need-add-finish
 add-finish c =
     let k = c .before .before .before .before .before .before .before .before in
     let a = k .before .before .before .before .before in
-    omega (arith, room k, usable-measured (a .args .image .now) (a .args .m .size) (a .args .used) (a .pre .0) .two-bytes)
+    omega (arith, room k, usable-measured (a .pre .0) .two-bytes)
 
 finish-requires : tie.Need-finish-requires
 finish-requires c κs =
     let p = c .before .before .before in
     let k = p .before .before .before .before .before in
     let a = k .before .before .before .before .before in
-    let o = usable-over (a .args .image .now) (a .args .m .size) (a .args .used) (a .pre .0) in (
+    let o = usable-over (a .pre .0) in (
       record { has-size = p .put-block .kept .0 ∙ k .keep-contents .kept .0 ∙ o .has-size; is-legal = o .is-legal },
       (omega arith, omega (arith, room k)),
     )
@@ -71,7 +69,7 @@ returns c =
     let k = p .before .before .before .before .before in
     let a = k .before .before .before .before .before in
     c .before .before .finish .ensures
-    ∙ compact-is (a .args .image .now) (a .args .m .size) (a .args .used) (a .pre .0) blankArea new-area _ (k .keep-contents .result) (a .args .number) (a .args .page .now) (a .pre .1 .0) (a .pre .1 .1) (inside a)
+    ∙ compact-is (a .pre .0) blankArea new-area _ (k .keep-contents .result) (a .args .number) (a .args .page .now) (a .pre .1 .0) (a .pre .1 .1) (inside a)
     _ (k .keep-contents .ensures) refl _ (p .put-block .ensures)
 
 pub compact-spec : {M : Type 1} → statement M

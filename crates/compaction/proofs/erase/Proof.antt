@@ -14,17 +14,15 @@ slice-aggregate-keep-contents c = search needs
 keep-contents-requires : tie.Need-keep-contents-requires
 keep-contents-requires c κs =
     let a = c .before .before .before in
-    (a .pre, numbers-enough (a .args .m .size) (usable-legal (a .args .image .now) (a .args .m .size) (a .args .used) (a .pre)))
+    (a .pre, numbers-enough (a .args .log .m .size) (usable-legal (a .pre)))
 
 finish-requires : tie.Need-finish-requires
 finish-requires c κs =
     let k = c .before .before .before .before in
     let a = k .before .before .before .before in
-    let i = a .args .image .now in
-    let s = a .args .m .size in
-    let o = usable-over i s (a .args .used) (a .pre) in
-    let n = erase-low i s (a .args .used) (a .pre) _ new-area _ (k .keep-contents .result) (k .keep-contents .ensures) in
-    let h = erase-high i s (a .args .used) (a .pre) _ new-area _ (k .keep-contents .result) (k .keep-contents .ensures) in
+    let o = usable-over (a .pre) in
+    let n = erase-low (a .pre) _ new-area _ (k .keep-contents .result) (k .keep-contents .ensures) in
+    let h = erase-high (a .pre) _ new-area _ (k .keep-contents .result) (k .keep-contents .ensures) in
     (record { has-size = k .keep-contents .kept .0 ∙ o .has-size; is-legal = o .is-legal }, (omega arith, omega (arith, n, h)))
 
 same-length : tie.Need-same-length
@@ -35,7 +33,7 @@ returns c =
     let k = c .before .before .before .before .before .before .before in
     let a = k .before .before .before .before in
     c .before .before .finish .ensures
-    ∙ erase-is (a .args .image .now) (a .args .m .size) (a .args .used) (a .pre) _ new-area _ (k .keep-contents .result) (k .keep-contents .ensures)
+    ∙ erase-is (a .pre) _ new-area _ (k .keep-contents .result) (k .keep-contents .ensures)
 
 pub erase-spec : {M : Type 1} → statement M
 erase-spec =

@@ -15,9 +15,9 @@ use Rattle.compaction.proofs.keep_contents.Tie as tie
 
 -- the part that is handed on is the list
 listed : (l : tie.After-list-kept)
-    → take (1021 - (1021 - l .list-kept .result)) (drop (1021 - l .list-kept .result) (l .list-kept .last .1 .1 .1 .1 .0))
-    ≡ keptBlocks (l .before .before .before .before .before .before .args .area .now) (l .before .before .before .before .before .before .args .image .now) (l .before .before .before .before .before .before .args .used)
-listed l = part-is 1021 (1021 - l .list-kept .result) (l .list-kept .last .1 .1 .1 .1 .0) _ (l .list-kept .kept .1 .1 .1 .1 .0) (l .list-kept .ensures .1)
+    → take (1021 - (1021 - l .list-kept .result)) (drop (1021 - l .list-kept .result) (l .list-kept .last .1 .1 .1 .0))
+    ≡ keptBlocks (l .before .before .before .before .before .before .args .area .now) (l .before .before .before .before .before .before .args .image .now) (l .before .before .before .before .before .before .args .log .used)
+listed l = part-is 1021 (1021 - l .list-kept .result) (l .list-kept .last .1 .1 .1 .0) _ (l .list-kept .kept .1 .1 .1 .0) (l .list-kept .ensures .1)
 
 slice-aggregate-list-kept : tie.Need-slice-aggregate-list-kept
 slice-aggregate-list-kept c = search needs
@@ -25,15 +25,14 @@ slice-aggregate-list-kept c = search needs
 list-kept-requires : tie.Need-list-kept-requires
 list-kept-requires c κs =
     let a = c .before .before .before .before .before in
-    (a .pre .0, (a .pre .1, numbers-enough (a .args .m .size) (usable-legal (a .args .image .now) (a .args .m .size) (a .args .used) (a .pre .0))))
+    (a .pre .0, (a .pre .1, numbers-enough (a .args .log .m .size) (usable-legal (a .pre .0))))
 
 sub-keep-blocks : tie.Need-sub-keep-blocks
 sub-keep-blocks c =
     let l = c .before .before .before .before in
     let a = l .before .before .before .before .before .before in
-    let i = a .args .image .now in
-    let s = a .args .m .size in
-    omega (arith, l .list-kept .ensures .0, count-most i s (a .args .used) (a .pre .0), numbers-enough s (usable-legal i s (a .args .used) (a .pre .0)))
+    let s = a .args .log .m .size in
+    omega (arith, l .list-kept .ensures .0, count-most (a .pre .0), numbers-enough s (usable-legal (a .pre .0)))
 
 mul-keep-blocks : tie.Need-mul-keep-blocks
 mul-keep-blocks c = search needs
@@ -52,7 +51,7 @@ keep-blocks-requires c κs =
     let l = c .before .before .before .before .before .before in
     let a = l .before .before .before .before .before .before in
     let i = a .args .image .now in
-    subst (λ (kept : List ℕ). RisingBlocks 1 (length i) kept) (sym (listed l)) (kept-rise i (a .args .m .size) (a .args .used) (a .pre .0) (a .args .area .now))
+    subst (λ (kept : List ℕ). RisingBlocks 1 (length i) kept) (sym (listed l)) (kept-rise (a .pre .0) (a .args .area .now))
 
 same-length : tie.Need-same-length
 same-length c = search needs

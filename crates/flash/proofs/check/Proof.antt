@@ -1,32 +1,31 @@
 -- `check` meets its contract. Assumes nothing.
 use mathlib.Core.Path.{sym, _∙_}
-use Rattle.flash.proofs.AnswerLaws.{opened-usable, refused-by, check-done}
 use Rattle.flash_model.specs.Calls.{Call.onWhole, WholeCall.check}
+use Rattle.flash.proofs.AnswerLaws.{opened, refused-by, check-done}
 use borrow.Author.Needs.{needs}
 use Rattle.flash.proofs.check.Statement.{statement}
 use Rattle.flash.proofs.check.Tie as tie
 
-open-requires : tie.Need-open-requires
-open-requires c κs = search needs
-
-enum-known-refused : tie.Need-enum-known-refused
-enum-known-refused c = search needs
-
-enum-told : tie.Need-enum-told
-enum-told c = search needs
+abbrev start : tie.After-open → tie.Start
+start c = c .before .before
 
 returns : tie.Need-returns
 returns c =
-    let a = c .before .before .before .before .before in
-    let i = a .args .image .now in
-    refused-by i (onWhole (check (a .args .partition))) _ (sym (c .before .before .before .«open» .ensures) ∙ c .before .refused .given .1)
+    let o = c .before .before .before in
+    let a = start o in
+    refused-by (a .args .image .now) (onWhole (check (a .args .partition))) _ (sym (o .«open» .ensures) ∙ c .before .refused .given .1)
 
 returns-2 : tie.Need-returns-2
 returns-2 c =
-    let a = c .before .before .before .before in
-    let i = a .args .image .now in
-    let passed = opened-usable i (a .args .partition) _ (sym (c .before .before .«open» .ensures) ∙ c .enum-told .given .1) .0 in
-    check-done i (a .args .partition) passed
+    let o = c .before .before in
+    check-done _ _ (opened _ _ _ (sym (o .«open» .ensures) ∙ c .enum-told .given .1) .unrefused)
 
 pub check-spec : {M : Type 1} → statement M
-check-spec = tie.close (tie.spec open-requires enum-known-refused enum-told returns returns-2)
+check-spec =
+    tie.close
+    (tie.spec
+    (λ c κs. search needs)
+    (λ c. search needs)
+    (λ c. search needs)
+    returns
+    returns-2)

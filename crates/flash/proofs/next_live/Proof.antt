@@ -1,45 +1,36 @@
 -- `next_live` meets its contract. Assumes nothing.
 use mathlib.Core.Path.{sym, _∙_}
-use Rattle.flash.proofs.AnswerLaws.{opened-usable, refused-by, next-done}
 use Rattle.flash_model.specs.Calls.{Call.onWhole, WholeCall.nextLive}
+use Rattle.flash.proofs.AnswerLaws.{PastOpening, opened, refused-by, next-done}
 use borrow.Author.Needs.{needs}
 use Rattle.flash.proofs.next_live.Statement.{statement}
 use Rattle.flash.proofs.next_live.Tie as tie
 
-open-requires : tie.Need-open-requires
-open-requires c κs = search needs
+abbrev start : tie.After-open → tie.Start
+start c = c .before .before
 
-enum-known-refused : tie.Need-enum-known-refused
-enum-known-refused c = search needs
+abbrev logged : tie.After-known-told2 → tie.After-open
+logged c = c .before .before .before
 
-enum-known-used : tie.Need-enum-known-used
-enum-known-used c = search needs
-
-of-requires : tie.Need-of-requires
-of-requires c κs = search needs
-
-next-from-requires : tie.Need-next-from-requires
-next-from-requires c κs =
-    let u = c .before .before in
-    let a = u .before .before .before .before in
-    let i = a .args .image .now in
-    opened-usable i (a .args .partition) _ (sym (u .before .before .«open» .ensures) ∙ u .used .given .1) .1 _ (c .of .ensures)
+past : (c : tie.After-known-told2) → PastOpening (start (logged c) .args .image .now) (start (logged c) .args .partition) (c .before .log .given .0 .0)
+past c = opened _ _ _ (sym (logged c .«open» .ensures) ∙ c .before .log .given .1)
 
 returns : tie.Need-returns
 returns c =
-    let a = c .before .before .before .before .before in
-    let i = a .args .image .now in
-    refused-by i (onWhole (nextLive (a .args .partition) (a .args .from))) _ (sym (c .before .before .before .«open» .ensures) ∙ c .before .refused .given .1)
+    let o = c .before .before .before in
+    let a = start o in
+    refused-by (a .args .image .now) (onWhole (nextLive (a .args .partition) (a .args .from))) _ (sym (o .«open» .ensures) ∙ c .before .refused .given .1)
 
 returns-2 : tie.Need-returns-2
-returns-2 c =
-    let u = c .before .before .before in
-    let a = u .before .before .before .before in
-    let i = a .args .image .now in
-    let passed = opened-usable i (a .args .partition) _ (sym (u .before .before .«open» .ensures) ∙ u .used .given .1) .0 in
-    next-done i (a .args .partition) passed (a .args .from) _ (c .next-from .ensures)
+returns-2 c = next-done _ _ (past (c .before) .unrefused) (start (logged (c .before)) .args .from) _ (c .next-from .ensures)
 
 pub next-live-spec : {M : Type 1} → statement M
 next-live-spec =
     tie.close
-    (tie.spec open-requires enum-known-refused enum-known-used of-requires next-from-requires returns returns-2)
+    (tie.spec
+    (λ c κs. search needs)
+    (λ c. search needs)
+    (λ c. search needs)
+    (λ c κs. past c .usable)
+    returns
+    returns-2)

@@ -1,57 +1,41 @@
 -- `read` meets its contract. Assumes nothing.
 use mathlib.Core.Path.{sym, _∙_}
-use Rattle.flash.proofs.AnswerLaws.{opened-usable, refused-by, read-done}
 use Rattle.flash_model.specs.Calls.{Call.onPage, PageCall.read}
+use Rattle.flash.proofs.AnswerLaws.{PastOpening, opened, refused-by, read-done}
 use borrow.Author.Needs.{needs}
 use Rattle.flash.proofs.read.Statement.{statement}
 use Rattle.flash.proofs.read.Tie as tie
 
-open-requires : tie.Need-open-requires
-open-requires c κs = search needs
+abbrev start : tie.After-open → tie.Start
+start c = c .before .before .before
 
-enum-known-refused : tie.Need-enum-known-refused
-enum-known-refused c = search needs
+abbrev logged : tie.After-known-told2 → tie.After-open
+logged c = c .before .before .before
 
-enum-known-used : tie.Need-enum-known-used
-enum-known-used c = search needs
-
-of-requires : tie.Need-of-requires
-of-requires c κs = search needs
-
-read-page-requires : tie.Need-read-page-requires
-read-page-requires c κs =
-    let u = c .before .before .before in
-    let a = u .before .before .before .before .before in
-    let i = a .args .image .now in
-    opened-usable i (a .args .partition) _ (sym (u .before .before .«open» .ensures) ∙ u .used .given .1) .1 _ (c .before .of .ensures)
+past : (c : tie.After-known-told2) → PastOpening (start (logged c) .args .image .now) (start (logged c) .args .partition) (c .before .log .given .0 .0)
+past c = opened _ _ _ (sym (logged c .«open» .ensures) ∙ c .before .log .given .1)
 
 returns : tie.Need-returns
 returns c =
-    let a = c .before .before .before .before .before .before in
-    let i = a .args .image .now in
-    refused-by i (onPage (read (a .args .partition) (a .args .number) (a .args .page .now))) _ (sym (c .before .before .before .«open» .ensures) ∙ c .before .refused .given .1)
-
-same-length : tie.Need-same-length
-same-length c = search needs
+    let o = c .before .before .before in
+    let a = start o in
+    refused-by (a .args .image .now) (onPage (read (a .args .partition) (a .args .number) (a .args .page .now))) _ (sym (o .«open» .ensures) ∙ c .before .refused .given .1)
 
 returns-2 : tie.Need-returns-2
 returns-2 c =
-    let u = c .before .before .before .before .before .before in
-    let a = u .before .before .before .before .before in
-    let i = a .args .image .now in
-    let passed = opened-usable i (a .args .partition) _ (sym (u .before .before .«open» .ensures) ∙ u .used .given .1) .0 in
-    let r = c .before .before .read-page in
-    read-done i (a .args .partition) passed (a .args .number) (a .args .page .now) _ _ (r .ensures .0) (r .ensures .1)
+    let r = c .before .before in
+    let l = r .before .before in
+    let a = start (logged l) in
+    read-done _ _ (past l .unrefused) (a .args .number) (a .args .page .now) _ _ (r .read-page .ensures .0) (r .read-page .ensures .1)
 
 pub read-spec : {M : Type 1} → statement M
 read-spec =
     tie.close
     (tie.spec
-    open-requires
-    enum-known-refused
-    enum-known-used
-    of-requires
-    read-page-requires
+    (λ c κs. search needs)
+    (λ c. search needs)
+    (λ c. search needs)
+    (λ c κs. past (c .before) .usable)
     returns
-    same-length
+    (λ c. search needs)
     returns-2)

@@ -6,7 +6,7 @@ use native.Mathlib.Omega.{arith}
 use native.Mathlib.Nat.{zero-add}
 use lib.ListN.{length}
 use Rattle.flash_model.specs.Partition.{live}
-use Rattle.partition.proofs.UsableLaws.{usable-legal}
+use Rattle.partition.proofs.UsableLaws.{usable-legal, usable-measured, count-most}
 use Rattle.listing.specs.Listing.{keptBlocks}
 use Rattle.listing.specs.Passing.{PassAt}
 use Rattle.listing.proofs.AreaLaws.{numbers-enough, blankArea, new-area}
@@ -17,24 +17,23 @@ use Rattle.listing.proofs.count_live.Statement.{statement}
 use Rattle.listing.proofs.count_live.Tie as tie
 
 abbrev Inv-loop : tie.InvT-loop
-Inv-loop image m used area₀ end count₀ k₀ area count k =
-    (count + k ≤ used) × (length area ≡ length blankArea) × PassAt area image (m .size) end k × (count + length (keptBlocks area image k) ≡ live image)
+Inv-loop image log area₀ end count₀ k₀ area count k =
+    (count + k ≤ log .used) × (length area ≡ length blankArea) × PassAt area image (log .m .size) end k × (count + length (keptBlocks area image k) ≡ live image)
 
 abbrev μ-loop : tie.MeasureT-loop
-μ-loop image m used area₀ end count₀ k₀ area count k = k
+μ-loop image log area₀ end count₀ k₀ area count k = k
 
 capacity-requires : tie.Need-capacity-requires Inv-loop μ-loop
 capacity-requires c κs =
     let a = c .before in
-    usable-legal (a .args .image .now) (a .args .m .size) (a .args .used) (a .pre)
+    usable-legal (a .pre)
 
 loop-holds : tie.Need-loop-holds Inv-loop μ-loop
 loop-holds c =
     let a = c .before .before in
-    let i = a .args .image .now in
-    let s = a .args .m .size in
-    let long : c .capacity .result ≤ length blankArea = omega (arith, c .capacity .ensures, numbers-enough s (usable-legal i s (a .args .used) (a .pre))) in
-    (omega arith, refl, pass-first blankArea i s (c .capacity .result) (a .args .used) (a .pre) (c .capacity .ensures) long, zero-add _ ∙ kept-live i s (a .args .used) (a .pre) blankArea new-area)
+    let s = a .args .log .m .size in
+    let long : c .capacity .result ≤ length blankArea = omega (arith, c .capacity .ensures, numbers-enough s (usable-legal (a .pre))) in
+    (omega arith, refl, pass-first blankArea (c .capacity .result) (a .pre) (c .capacity .ensures) long, zero-add _ ∙ kept-live (a .pre) blankArea new-area)
 
 slice-aggregate-count-run : tie.Need-slice-aggregate-count-run Inv-loop μ-loop
 slice-aggregate-count-run c = sym (c .before .before .loop .inv .1)
@@ -46,7 +45,8 @@ add-count : tie.Need-add-count Inv-loop μ-loop
 add-count c =
     let r = c .before .before in
     let l = r .before .before .before in
-    omega (arith, r .count-run .ensures .1 .0, l .loop .inv .0, l .before .before .before .fits)
+    let u = l .before .before .before .pre in
+    omega (arith, r .count-run .ensures .1 .0, l .loop .inv .0, count-most u, usable-measured u .two-bytes)
 
 -- the area after a run is as long
 same-area : (r : tie.After-count-run Inv-loop μ-loop) → length (r .count-run .last .1 .1 .1 .0) ≡ length blankArea

@@ -13,17 +13,17 @@ use Rattle.listing.proofs.list_kept.Statement.{statement}
 use Rattle.listing.proofs.list_kept.Tie as tie
 
 abbrev Inv-loop : tie.InvT-loop
-Inv-loop image m used area₀ kept₀ end count₀ k₀ area kept count k =
-    (count + k ≤ used) × (length area ≡ length area₀) × (length kept ≡ length kept₀) × PassAt area image (m .size) end k
-    × (leftAndListed area image k count kept ≡ keptBlocks area₀ image used)
+Inv-loop image log area₀ kept₀ end count₀ k₀ area kept count k =
+    (count + k ≤ log .used) × (length area ≡ length area₀) × (length kept ≡ length kept₀) × PassAt area image (log .m .size) end k
+    × (leftAndListed area image k count kept ≡ keptBlocks area₀ image (log .used))
 
 abbrev μ-loop : tie.MeasureT-loop
-μ-loop image m used area₀ kept₀ end count₀ k₀ area kept count k = k
+μ-loop image log area₀ kept₀ end count₀ k₀ area kept count k = k
 
 capacity-requires : tie.Need-capacity-requires Inv-loop μ-loop
 capacity-requires c κs =
     let a = c .before .before .before in
-    usable-legal (a .args .image .now) (a .args .m .size) (a .args .used) (a .pre .0)
+    usable-legal (a .pre .0)
 
 loop-holds : tie.Need-loop-holds Inv-loop μ-loop
 loop-holds c =
@@ -32,15 +32,15 @@ loop-holds c =
       omega arith,
       refl,
       refl,
-      pass-first (a .args .area .now) i (a .args .m .size) (c .capacity .result) (a .args .used) (a .pre .0) (c .capacity .ensures) (omega (arith, c .capacity .ensures, a .pre .1 .0)),
-      listed-first (a .args .area .now) i (a .args .kept .now) (a .args .used),
+      pass-first (a .args .area .now) (c .capacity .result) (a .pre .0) (c .capacity .ensures) (omega (arith, c .capacity .ensures, a .pre .1 .0)),
+      listed-first (a .args .area .now) i (a .args .kept .now) (a .args .log .used),
     )
 
 list-run-requires : tie.Need-list-run-requires Inv-loop μ-loop
 list-run-requires c κs =
     let l = c .before .before .before in
     let a = l .before .before .before .before .before in
-    (l .loop .inv .3, omega (arith, l .loop .inv .0, l .loop .inv .2, count-most (a .args .image .now) (a .args .m .size) (a .args .used) (a .pre .0), a .pre .1 .1))
+    (l .loop .inv .3, omega (arith, l .loop .inv .0, l .loop .inv .2, count-most (a .pre .0), a .pre .1 .1))
 
 pass-known-requires : tie.Need-pass-known-requires Inv-loop μ-loop
 pass-known-requires c κs = c .before .before .before .before .before .list-run .ensures .0 .pass-at

@@ -7,77 +7,57 @@ use Rattle.listing.proofs.next_number.Statement.{statement}
 use Rattle.listing.proofs.next_number.Tie as tie
 
 abbrev Inv-loop : tie.InvT-loop
-Inv-loop image m used start end best₀ k₀ best k = (1 ≤ k) × (k ≤ used + 1) × Best image start end k best
+Inv-loop image log start end used best₀ k₀ best k = (1 ≤ k) × (k ≤ used + 1) × Best image start end k best
 
 abbrev μ-loop : tie.MeasureT-loop
-μ-loop image m used start end best₀ k₀ best k = used + 1 - k
+μ-loop image log start end used best₀ k₀ best k = used + 1 - k
 
-capacity-requires : tie.Need-capacity-requires Inv-loop μ-loop
-capacity-requires c κs =
-    let a = c .before in
-    usable-legal (a .args .image .now) (a .args .m .size) (a .args .used) (a .pre)
+abbrev start : tie.After-capacity Inv-loop μ-loop → tie.Start Inv-loop μ-loop
+start c = c .before .before
+
+-- from the loop's head, and from behind a block, back
+abbrev measured : tie.At-loop Inv-loop μ-loop → tie.After-capacity Inv-loop μ-loop
+measured c = c .before .before
+
+abbrev head : tie.After-lower Inv-loop μ-loop → tie.At-loop Inv-loop μ-loop
+head c = c .before .before .before
+
+-- the best with that block
+lowered : (c : tie.After-lower Inv-loop μ-loop)
+    → Best (start (measured (head c)) .args .image .now) (start (measured (head c)) .args .start) (measured (head c) .capacity .result) (head c .loop .k + 1) (c .lower .result)
+lowered c =
+    let l = head c .loop in
+    best-next _ _ _ (l .k) (l .best) (l .inv .2) (l .inv .0) _ (c .before .part-from .ensures .0) (c .lower .result) (c .lower .ensures)
 
 returns : tie.Need-returns Inv-loop μ-loop
 returns c =
-    let a = c .before .before .before in
-    next-past (a .args .image .now) (a .args .m .size) (a .args .used) (a .pre) (c .before .capacity .result) (c .before .capacity .ensures) (a .args .start) (c .if1 .taken)
-
-loop-holds : tie.Need-loop-holds Inv-loop μ-loop
-loop-holds c =
-    let a = c .before .before .before in
-    (omega arith, omega arith, best-first (a .args .image .now) (a .args .start) (c .before .capacity .result))
-
-part-from-requires : tie.Need-part-from-requires Inv-loop μ-loop
-part-from-requires c κs =
-    let a = c .before .before .before .before .before in
-    let i = a .args .image .now in
-    (usable-over i (a .args .m .size) (a .args .used) (a .pre), omega (arith, c .loop-test .taken, count-most i (a .args .m .size) (a .args .used) (a .pre)))
-
-lower-requires : tie.Need-lower-requires Inv-loop μ-loop
-lower-requires c κs = c .part-from .ensures .1
+    let n = c .before in
+    next-past (start n .pre) (n .capacity .result) (n .capacity .ensures) (start n .args .start) (c .if1 .taken)
 
 returns-2 : tie.Need-returns-2 Inv-loop μ-loop
 returns-2 c =
-    let l = c .before .before .before .before in
-    let n = l .before .before in
-    let a = n .before .before in
-    let b = best-next (a .args .image .now) (a .args .start) (n .capacity .result) (l .loop .k) (l .loop .best) (l .loop .inv .2) (l .loop .inv .0) _ (c .before .before .part-from .ensures .0) (c .before .lower .result) (c .before .lower .ensures) in
-    next-start (a .args .image .now) (a .args .m .size) (a .args .used) (a .pre) (n .capacity .result) (n .capacity .ensures) (a .args .start) (l .loop .k + 1) (c .before .lower .result)
-    (l .before .if1 .left) (omega (arith, c .before .before .before .loop-test .taken)) (c .if2 .taken) b
+    let l = head (c .before) in
+    let n = measured l in
+    next-start (start n .pre) (n .capacity .result) (n .capacity .ensures) (start n .args .start) (l .loop .k + 1) (c .before .lower .result)
+    (l .before .if1 .left) (omega (arith, c .before .before .before .loop-test .taken)) (c .if2 .taken) (lowered (c .before))
 
 add-k : tie.Need-add-k Inv-loop μ-loop
 add-k c =
-    let a = c .before .before .before .before .before .before .before .before in
-    let i = a .args .image .now in
-    omega (arith, c .before .before .before .loop-test .taken, count-most i (a .args .m .size) (a .args .used) (a .pre), usable-measured i (a .args .m .size) (a .args .used) (a .pre) .two-bytes)
-
-loop-less : tie.Need-loop-less Inv-loop μ-loop
-loop-less c = omega (arith, c .before .before .before .loop-test .taken)
-
-loop-again : tie.Need-loop-again Inv-loop μ-loop
-loop-again c =
-    let l = c .before .before .before .before in
-    let n = l .before .before in
-    let a = n .before .before in (
-      omega arith,
-      omega (arith, c .before .before .before .loop-test .taken),
-      best-next (a .args .image .now) (a .args .start) (n .capacity .result) (l .loop .k) (l .loop .best) (l .loop .inv .2) (l .loop .inv .0) _ (c .before .before .part-from .ensures .0) (c .before .lower .result) (c .before .lower .ensures),
-    )
+    let u = start (measured (head (c .before))) .pre in
+    omega (arith, c .before .before .before .loop-test .taken, count-most u, usable-measured u .two-bytes)
 
 returns-3 : tie.Need-returns-3 Inv-loop μ-loop
 returns-3 c =
     let l = c .before .before in
-    let n = l .before .before in
-    let a = n .before .before in
-    next-is (a .args .image .now) (a .args .m .size) (a .args .used) (a .pre) (n .capacity .result) (n .capacity .ensures) (a .args .start) (l .loop .k) (l .loop .best)
+    let n = measured l in
+    next-is (start n .pre) (n .capacity .result) (n .capacity .ensures) (start n .args .start) (l .loop .k) (l .loop .best)
     (omega (arith, l .loop .inv .1, c .before .loop-test .left)) (l .loop .inv .2) (c .if3 .taken)
 
 returns-4 : tie.Need-returns-4 Inv-loop μ-loop
 returns-4 c =
     let l = c .before .before in
-    let n = l .before .before in
-    let a = n .before .before in
-    next-none (a .args .image .now) (a .args .m .size) (a .args .used) (a .pre) (n .capacity .result) (n .capacity .ensures) (a .args .start) (l .loop .k) (l .loop .best)
+    let n = measured l in
+    next-none (start n .pre) (n .capacity .result) (n .capacity .ensures) (start n .args .start) (l .loop .k) (l .loop .best)
     (omega (arith, l .loop .inv .1, c .before .loop-test .left)) (l .loop .inv .2) (c .if3 .left)
 
 pub next-number-spec : {M : Type 1} → statement M
@@ -86,14 +66,14 @@ next-number-spec =
     (tie.spec
     Inv-loop
     μ-loop
-    capacity-requires
+    (λ c κs. usable-legal (c .before .pre))
     returns
-    loop-holds
-    part-from-requires
-    lower-requires
+    (λ c. (omega arith, omega arith, best-first _ _ _))
+    (λ c κs. let u = start (measured (c .before)) .pre in (usable-over u, omega (arith, c .loop-test .taken, count-most u)))
+    (λ c κs. c .part-from .ensures .1)
     returns-2
     add-k
-    loop-less
-    loop-again
+    (λ c. omega (arith, c .before .before .before .loop-test .taken))
+    (λ c. (omega arith, omega (arith, c .before .before .before .loop-test .taken), lowered (c .before)))
     returns-3
     returns-4)

@@ -23,18 +23,14 @@ enum-told-2 c = search needs
 returns : tie.Need-returns
 returns c =
     let a = c .before .before .before .before .before .before in
-    let i = a .args .image .now in
-    let s = a .args .m .size in
     let u = a .pre .0 in
-    page-there i s (a .args .used) u (a .args .number) (a .args .expected .now) (c .before .before .if1 .taken) _ (sym (c .before .before .before .find .ensures) ∙ c .enum-told2 .given .1)
+    page-there u (a .args .number) (a .args .expected .now) (c .before .before .if1 .taken) _ (sym (c .before .before .before .find .ensures) ∙ c .enum-told2 .given .1)
 
 returns-2 : tie.Need-returns-2
 returns-2 c =
     let a = c .before .before .before .before .before .before in
-    let i = a .args .image .now in
-    let s = a .args .m .size in
     let u = a .pre .0 in
-    nothing-there i s (a .args .used) u (a .args .number) (a .args .expected .now) (c .before .before .if1 .taken) (sym (c .before .before .before .find .ensures) ∙ c .enum-told .given .1)
+    nothing-there u (a .args .number) (a .args .expected .now) (c .before .before .if1 .taken) (sym (c .before .before .before .find .ensures) ∙ c .enum-told .given .1)
 
 enum-known-found : tie.Need-enum-known-found
 enum-known-found c = search needs
@@ -45,18 +41,14 @@ enum-told-3 c = search needs
 returns-3 : tie.Need-returns-3
 returns-3 c =
     let a = c .before .before .before .before .before .before in
-    let i = a .args .image .now in
-    let s = a .args .m .size in
     let u = a .pre .0 in
-    nothing-left i s (a .args .used) u (a .args .number) (a .args .expected .now) (c .before .before .if1 .left) (sym (c .before .before .before .find .ensures) ∙ c .enum-told3 .given .1)
+    nothing-left u (a .args .number) (a .args .expected .now) (c .before .before .if1 .left) (sym (c .before .before .before .find .ensures) ∙ c .enum-told3 .given .1)
 
 part-from-requires : tie.Need-part-from-requires
 part-from-requires c κs =
     let a = c .before .before .before .before .before .before .before in
-    let i = a .args .image .now in
-    let s = a .args .m .size in
     let u = a .pre .0 in
-    (usable-over i s (a .args .used) u, found-high i s (a .args .used) u (a .args .number) _ (sym (c .before .before .before .before .find .ensures) ∙ c .before .found .given .1))
+    (usable-over u, found-high u (a .args .number) _ (sym (c .before .before .before .before .find .ensures) ∙ c .before .found .given .1))
 
 sub-same-page : tie.Need-sub-same-page
 sub-same-page c = search needs
@@ -73,21 +65,17 @@ same-page-requires c κs = search needs
 returns-4 : tie.Need-returns-4
 returns-4 c =
     let a = c .before .before .before .before .before .before .before .before .before .before .before in
-    let i = a .args .image .now in
-    let s = a .args .m .size in
     let u = a .pre .0 in
     let part = c .before .before .before .part-from in
-    compared i s (a .args .used) u (a .args .number) (a .args .expected .now) _ (sym (c .before .before .before .before .before .before .before .before .find .ensures) ∙ c .before .before .before .before .before .found .given .1) true
+    compared u (a .args .number) (a .args .expected .now) _ (sym (c .before .before .before .before .before .before .before .before .find .ensures) ∙ c .before .before .before .before .before .found .given .1) true
     (sym (c .if2 .taken) ∙ c .before .same-page .ensures ∙ ap (λ (l : List ℕ). sameBytes l (a .args .expected .now)) (payload-part (part .result .now) _ (part .ensures .0)))
 
 returns-5 : tie.Need-returns-5
 returns-5 c =
     let a = c .before .before .before .before .before .before .before .before .before .before .before in
-    let i = a .args .image .now in
-    let s = a .args .m .size in
     let u = a .pre .0 in
     let part = c .before .before .before .part-from in
-    compared i s (a .args .used) u (a .args .number) (a .args .expected .now) _ (sym (c .before .before .before .before .before .before .before .before .find .ensures) ∙ c .before .before .before .before .before .found .given .1) false
+    compared u (a .args .number) (a .args .expected .now) _ (sym (c .before .before .before .before .before .before .before .before .find .ensures) ∙ c .before .before .before .before .before .found .given .1) false
     (sym (c .if2 .left) ∙ c .before .same-page .ensures ∙ ap (λ (l : List ℕ). sameBytes l (a .args .expected .now)) (payload-part (part .result .now) _ (part .ensures .0)))
 
 pub changed-spec : {M : Type 1} → statement M

@@ -10,27 +10,21 @@ use Rattle.pages.proofs.read_page.Tie as tie
 legal-number-requires : tie.Need-legal-number-requires
 legal-number-requires c κs =
     let a = c .before .before in
-    let i = a .args .image .now in
-    let s = a .args .m .size in
     let u = a .pre in
-    usable-legal i s (a .args .used) u
+    usable-legal u
 
 returns : tie.Need-returns
 returns c =
     let a = c .before .before .before .before in
-    let i = a .args .image .now in
-    let s = a .args .m .size in
     let u = a .pre in
-    let r = read-6 i s (a .args .used) u (a .args .number) (a .args .page .now) (sym (c .before .legal-number .ensures) ∙ not-true _ (c .if1 .taken)) in
+    let r = read-6 u (a .args .number) (a .args .page .now) (sym (c .before .legal-number .ensures) ∙ not-true _ (c .if1 .taken)) in
     (r .code-is, r .buffer-is)
 
 returns-2 : tie.Need-returns-2
 returns-2 c =
     let a = c .before .before .before .before .before in
-    let i = a .args .image .now in
-    let s = a .args .m .size in
     let u = a .pre in
-    let r = read-8 i s (a .args .used) u (a .args .number) (a .args .page .now) (sym (c .before .before .legal-number .ensures) ∙ not-false _ (c .before .if1 .left)) (c .if2 .taken) in
+    let r = read-8 u (a .args .number) (a .args .page .now) (sym (c .before .before .legal-number .ensures) ∙ not-false _ (c .before .if1 .left)) (c .if2 .taken) in
     (r .code-is, r .buffer-is)
 
 find-requires : tie.Need-find-requires
@@ -48,20 +42,17 @@ returns-3 : tie.Need-returns-3
 returns-3 c =
     let a = c .before .before .before .before .before .before .before .before in
     let i = a .args .image .now in
-    let s = a .args .m .size in
     let u = a .pre in
     let l = c .before .before .before .before in
-    let r = read-7 i s (a .args .used) u (a .args .number) (a .args .page .now) (sym (l .before .legal-number .ensures) ∙ not-false _ (l .if1 .left)) (c .before .before .before .if2 .left)
+    let r = read-7 u (a .args .number) (a .args .page .now) (sym (l .before .legal-number .ensures) ∙ not-false _ (l .if1 .left)) (c .before .before .before .if2 .left)
     (contents-none i (a .args .number) (sym (c .before .before .find .ensures) ∙ c .enum-told .given .1)) in
     (r .code-is, r .buffer-is)
 
 part-from-requires : tie.Need-part-from-requires
 part-from-requires c κs =
     let a = c .before .before .before .before .before .before .before .before .before in
-    let i = a .args .image .now in
-    let s = a .args .m .size in
     let u = a .pre in
-    (usable-over i s (a .args .used) u, found-high i s (a .args .used) u (a .args .number) _ (sym (c .before .before .before .find .ensures) ∙ c .before .k .given .1))
+    (usable-over u, found-high u (a .args .number) _ (sym (c .before .before .before .find .ensures) ∙ c .before .k .given .1))
 
 sub-copy-page : tie.Need-sub-copy-page
 sub-copy-page c = search needs
@@ -81,13 +72,11 @@ same-length c = search needs
 returns-4 : tie.Need-returns-4
 returns-4 c =
     let a = c .before .before .before .before .before .before .before .before .before .before .before .before .before .before .before in
-    let i = a .args .image .now in
-    let s = a .args .m .size in
     let u = a .pre in
     let f = c .before .before .before .before .before .before .before .before .before in
     let l = f .before .before in
     let part = c .before .before .before .before .before .part-from in
-    let r = read-0 i s (a .args .used) u (a .args .number) (a .args .page .now) (sym (l .before .legal-number .ensures) ∙ not-false _ (l .if1 .left)) (f .before .if2 .left)
+    let r = read-0 u (a .args .number) (a .args .page .now) (sym (l .before .legal-number .ensures) ∙ not-false _ (l .if1 .left)) (f .before .if2 .left)
     _ (sym (f .find .ensures) ∙ c .before .before .before .before .before .before .before .k .given .1)
     _ (c .before .before .copy-page .ensures ∙ payload-part (part .result .now) _ (part .ensures .0)) in
     (r .code-is, r .buffer-is)

@@ -14,22 +14,21 @@ use Rattle.partition.proofs.blocks.find.Statement.{statement}
 use Rattle.partition.proofs.blocks.find.Tie as tie
 
 abbrev Inv-loop : tie.InvT-loop
-Inv-loop image m used number k₀ k = (k ≤ used) × (asFound (holder image number) ≡ foundUpTo image number k)
+Inv-loop image log number k₀ k = (k ≤ log .used) × (asFound (holder image number) ≡ foundUpTo image number k)
 
 abbrev μ-loop : tie.MeasureT-loop
-μ-loop image m used number k₀ k = k
+μ-loop image log number k₀ k = k
 
 loop-holds : tie.Need-loop-holds Inv-loop μ-loop
 loop-holds c =
     let s = c .before in
-    (omega arith, from-used (s .args .image .now) (s .args .m .size) (s .args .used) (s .pre .0) (s .args .number) (s .pre .1))
+    (omega arith, from-used (s .pre .0) (s .args .number) (s .pre .1))
 
 numbered-requires : tie.Need-numbered-requires Inv-loop μ-loop
 numbered-requires c κs =
     let s = c .before .before .before in
-    let i = s .args .image .now in
     let u = s .pre .0 in
-    (usable-over i (s .args .m .size) (s .args .used) u, omega (arith, c .before .loop .inv .0, count-most i (s .args .m .size) (s .args .used) u))
+    (usable-over u, omega (arith, c .before .loop .inv .0, count-most u))
 
 returns : tie.Need-returns Inv-loop μ-loop
 returns c =
@@ -41,9 +40,8 @@ returns c =
 part-from-requires : tie.Need-part-from-requires Inv-loop μ-loop
 part-from-requires c κs =
     let s = c .before .before .before .before .before in
-    let i = s .args .image .now in
     let u = s .pre .0 in
-    (usable-over i (s .args .m .size) (s .args .used) u, omega (arith, c .before .before .before .loop .inv .0, c .before .numbered .ensures .below, count-most i (s .args .m .size) (s .args .used) u))
+    (usable-over u, omega (arith, c .before .before .before .loop .inv .0, c .before .numbered .ensures .below, count-most u))
 
 right-checksum-requires : tie.Need-right-checksum-requires Inv-loop μ-loop
 right-checksum-requires c κs = search needs

@@ -1,8 +1,7 @@
 -- `opening::open` meets its contract: each `return` is a case of `openingOf`. Assumes nothing.
-use mathlib.Core.Path.{_≡_, sym, ap, _∙_}
+use mathlib.Core.Path.{_≡_, sym, _∙_}
 use mathlib.Core.Option.{none, some}
 use native.Mathlib.Omega.{arith}
-use Rattle.flash_model.specs.Measures.{capacity}
 use Rattle.flash_model.specs.Partition.{lowestFree}
 use Rattle.bitmap.specs.Over.{Over}
 use Rattle.bitmap.specs.Found.{lowestAllocated}
@@ -48,7 +47,7 @@ returns-2 c =
     let e = tested s in
     let a = start e in
     open-full (a .args .image .now) (a .args .partition) (passed e) (found-nothing _ (sym (s .lowest-free .ensures) ∙ c .before .enum-told .given .1))
-    (c .capacity .result) (c .capacity .ensures ∙ ap capacity (s .before .of .ensures))
+    (s .before .of .result) (s .before .of .ensures) (c .capacity .result) (c .capacity .ensures)
 
 lowest-allocated-requires : tie.Need-lowest-allocated-requires
 lowest-allocated-requires c κs =
@@ -76,6 +75,7 @@ returns-4 c =
     let e = tested (searched (again l)) in
     let a = start e in
     open-free (a .args .image .now) (a .args .partition) (passed e) _ (is-free (again l)) (found-nothing _ (sym (l .lowest-allocated .ensures) ∙ c .enum-told2 .given .1))
+    (searched (again l) .before .of .result) (searched (again l) .before .of .ensures)
 
 pub open-spec : {M : Type 1} → statement M
 open-spec =
