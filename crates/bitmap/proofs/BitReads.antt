@@ -8,13 +8,10 @@ use lib.ListN.{length, getD}
 use Rattle.flash_model.specs.Measures.{firstBitmap, capacity}
 use Rattle.flash_model.specs.Bitmap.{bitByte, bitPlace, bitWeight, bitOf, allocatedIn}
 use Rattle.flash_model.specs.Partition.{bitmapOf, allocated}
-use Rattle.flash_model.proofs.MeasureLaws.{Measured, measures-of}
+use Rattle.flash_model.proofs.MeasureLaws.{Measured}
 use Rattle.flash_model.proofs.ImageLaws.{bitmap-byte}
-use Rattle.bitmap.specs.Over.{Over}
-
-module _ (image : List ℕ) (size : ℕ) (o : Over image size) where
-  pub over-measured : Measured size
-  over-measured = measures-of size (o .is-legal)
+use Rattle.measures.specs.HasMeasures.{HasMeasures}
+use Rattle.measures.proofs.WithinLaws.{measured}
 
 pub byte-inside : (size k : ℕ) → Measured size → 1 ≤ k → k ≤ capacity size → firstBitmap size * 64 + bitByte k < size
 unfolding bitByte
@@ -24,9 +21,9 @@ pub place-low : (k : ℕ) → bitPlace k < 8
 unfolding bitPlace
 place-low k = omega arith
 
-module _ {image : List ℕ} {size at : ℕ} (k : ℕ) (o : Over image size) (a : at ≡ firstBitmap size * 64 + bitByte k) where
+module _ {image : List ℕ} {size at : ℕ} (k : ℕ) (o : HasMeasures image size) (a : at ≡ firstBitmap size * 64 + bitByte k) where
   pub at-inside : 1 ≤ k → k ≤ capacity size → at < length image
-  at-inside lo hi = omega (arith, a, o .has-size, byte-inside size k (over-measured image size o) lo hi)
+  at-inside lo hi = omega (arith, a, o .has-size, byte-inside size k (measured o) lo hi)
 
   pub at-is : firstBitmap (length image) * 64 + bitByte k ≡ at
   at-is = ap (λ (n : ℕ). firstBitmap n * 64 + bitByte k) (o .has-size) ∙ sym a

@@ -1,6 +1,6 @@
 -- An image with a bitmap bit cleared, as its byte is stored. Assumes nothing.
-use Prim.Native.Nat.{ℕ, _+_, _*_, _-_, _/_, _%_, _^_, _≤_, _<_}
-use mathlib.Core.Path.{_≡_, sym, ap, _∙_}
+use Prim.Native.Nat.{ℕ, _+_, _*_, _-_, _%_, _^_, _≤_, _<_}
+use mathlib.Core.Path.{_≡_, sym, _∙_}
 use mathlib.Core.Bool.{false}
 use mathlib.Core.List.{List, _++_}
 use native.Mathlib.Omega.{arith}
@@ -13,7 +13,7 @@ use Rattle.flash_model.specs.Partition.{bitmapOf, allocated}
 use Rattle.flash_model.specs.Update.{beforeBitmap, bitCleared}
 use Rattle.flash_model.proofs.BitLaws.{bit-le}
 use Rattle.flash_model.proofs.BitmapLaws.{free-bit}
-use Rattle.bitmap.specs.Over.{Over}
+use Rattle.measures.specs.HasMeasures.{HasMeasures}
 use Rattle.bitmap.proofs.BitReads.{at-is, byte-is}
 
 -- a store behind a front
@@ -21,7 +21,7 @@ set-behind : (l : List ℕ) (n i v : ℕ) → take n l ++ set (drop n l) i v ≡
 set-behind l n i v =
     sym (sym (take-append-drop n (set l (n + i) v)) ∙ rw (take-set-le n l (n + i) v (omega arith), drop-set-add n l i v))
 
-module _ {image : List ℕ} {size at place : ℕ} (k : ℕ) (o : Over image size) (a : at ≡ firstBitmap size * 64 + bitByte k) (p : place ≡ bitPlace k)
+module _ {image : List ℕ} {size at place : ℕ} (k : ℕ) (o : HasMeasures image size) (a : at ≡ firstBitmap size * 64 + bitByte k) (p : place ≡ bitPlace k)
     (free : allocated image k ≡ false) (byte : getD image at 0 < 256) where
   weight-le : 2 ^ place ≤ getD image at 0
   unfolding allocated bitOf bitWeight

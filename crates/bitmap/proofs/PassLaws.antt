@@ -13,9 +13,9 @@ use Rattle.flash_model.specs.Bitmap.{bitByte, bitPlace, bitWeight, bitOf, alloc
 use Rattle.flash_model.specs.Partition.{bitmapOf, allocated, lowestFree}
 use Rattle.flash_model.proofs.BitLaws.{ones-below}
 use Rattle.flash_model.proofs.ImageLaws.{bitmap-byte}
-use Rattle.bitmap.specs.Over.{Over}
+use Rattle.measures.specs.HasMeasures.{HasMeasures}
 use Rattle.bitmap.specs.Run.{Run, Passed}
-use Rattle.bitmap.proofs.BitReads.{over-measured}
+use Rattle.measures.proofs.WithinLaws.{measured}
 
 -- ---- bytes whose bits are all alike
 
@@ -37,11 +37,11 @@ module _ (image : List ℕ) (k : ℕ) where
 pub passed-none : (image : List ℕ) (byte from : ℕ) → from ≤ firstBitmap (length image) → Passed image byte from from
 passed-none image byte from h = record { low = omega arith; high = h; alike = λ k a b. absurd (omega arith) }
 
-module _ (image : List ℕ) (size : ℕ) (o : Over image size) where
+module _ (image : List ℕ) (size : ℕ) (o : HasMeasures image size) where
   -- the bytes that have no ignored bit
   pub whole-bytes : firstBitmap size * 64 + capacity size / 8 ≤ length image
   whole-bytes =
-      let m = over-measured image size o in
+      let m = measured o in
       omega (arith, o .has-size, m .whole, m .first-bitmap, m .bits-enough)
 
   -- a run from the byte that the bit of `from` begins
@@ -50,7 +50,7 @@ module _ (image : List ℕ) (size : ℕ) (o : Over image size) where
   unfolding bitByte
   run-passed byte from at end to e f one begins run =
       let long : end ≡ firstBitmap (length image) = f ∙ ap firstBitmap (sym (o .has-size)) in
-      let some-block : 1 ≤ end = omega (arith, over-measured image size o .first-bitmap) in
+      let some-block : 1 ≤ end = omega (arith, measured o .first-bitmap) in
       let low = run .low in
       let high = run .high in
       record {
@@ -78,7 +78,7 @@ module _ (p : ℕ → Bool) (end : ℕ) where
       let e : k + (mid - k) ≡ mid = omega arith in
       pass-count (mid - k) k (omega arith) (λ j a b. none j a (omega arith)) ∙ ap (λ (j : ℕ). lowest p j (end - j)) e
 
-module _ (image : List ℕ) (size : ℕ) (o : Over image size) (end : ℕ) (e : end ≡ firstBitmap size) where
+module _ (image : List ℕ) (size : ℕ) (o : HasMeasures image size) (end : ℕ) (e : end ≡ firstBitmap size) where
   end-is : firstBitmap (length image) ≡ end
   end-is = ap firstBitmap (o .has-size) ∙ sym e
 
@@ -86,7 +86,7 @@ module _ (image : List ℕ) (size : ℕ) (o : Over image size) (end : ℕ) (e : 
   pub zeros-passed : {k : ℕ} → Passed image 0 1 k → lowestFree image ≡ lowest (λ j. not (allocated image j)) k (end - k)
   unfolding lowestFree lowestFreeIn allocated
   zeros-passed {k} a =
-      let n : capacity (length image) ≡ end - 1 = omega (arith, e, ap capacity (o .has-size), over-measured image size o .first-bitmap) in
+      let n : capacity (length image) ≡ end - 1 = omega (arith, e, ap capacity (o .has-size), measured o .first-bitmap) in
       ap (lowest (λ j. not (allocatedIn (bitmapOf image) j)) 1) n
       ∙ lowest-pass (λ j. not (allocated image j)) end 1 k (λ j l h. ap not (zero-allocated image j (a .alike j l h))) (a .low) (omega (arith, a .high, end-is))
 

@@ -1,3 +1,3 @@
-pub mod Over
+pub mod Blank
 pub mod Found
 pub mod Run

@@ -3,14 +3,17 @@ mod runs;
 
 use measures::Measures;
 use runs::run_end;
+use words::fill;
 ghost use mathlib.Core.Path.{_≡_};
 ghost use mathlib.Core.Bool.{true, false};
-ghost use Prim.Native.Nat.{_+_, _*_, _≤_};
+ghost use Prim.Native.Nat.{_+_, _*_, _≤_, _<_};
+ghost use lib.ListN.{length};
 ghost use Rattle.flash_model.specs.Measures.{legalSize, firstBitmap, capacity};
-ghost use Rattle.flash_model.specs.Bitmap.{bitByte, bitPlace};
-ghost use Rattle.flash_model.specs.Partition.{allocated, lowestFree};
-ghost use Rattle.flash_model.specs.Update.{bitCleared};
-ghost use Rattle.bitmap.specs.Over.{Over};
+ghost use Rattle.flash_model.specs.Bitmap.{bitByte, bitPlace, firstCleared};
+ghost use Rattle.flash_model.specs.Partition.{bitmapOf, allocated, lowestFree};
+ghost use Rattle.flash_model.specs.Update.{bitCleared, bitsCleared};
+ghost use Rattle.measures.specs.HasMeasures.{HasMeasures};
+ghost use Rattle.bitmap.specs.Blank.{IsBlank};
 ghost use Rattle.bitmap.specs.Found.{asFound, lowestAllocated};
 ghost use Rattle.bitmap.specs.Run.{Passed};
 
@@ -40,7 +43,7 @@ fn bit_place(k: usize) -> usize
 
 // Whether user block k is allocated: its bit is 0.
 pub fn is_allocated(image: &[u8], m: Measures, k: usize) -> bool
-    requires { ⌜ Over (now image) (m .size) ⌝ }
+    requires { ⌜ HasMeasures (now image) (m .size) ⌝ }
     requires { ⌜ (1 ≤ k) × (k ≤ capacity (m .size)) ⌝ }
     ensures { λ r. ⌜ r ≡ allocated (now (image .entry)) k ⌝ }
 {
@@ -49,7 +52,7 @@ pub fn is_allocated(image: &[u8], m: Measures, k: usize) -> bool
 
 // The bit of user block k, which is free, is cleared.
 pub fn clear_bit(image: &mut [u8], m: Measures, k: usize)
-    requires { ⌜ Over (now image) (m .size) ⌝ }
+    requires { ⌜ HasMeasures (now image) (m .size) ⌝ }
     requires { ⌜ (1 ≤ k) × (k ≤ capacity (m .size)) ⌝ }
     requires { ⌜ allocated (now image) k ≡ false ⌝ }
     ensures { λ _. ⌜ now (image .exit) ≡ bitCleared (now (image .entry)) k ⌝ }
@@ -61,7 +64,7 @@ pub fn clear_bit(image: &mut [u8], m: Measures, k: usize)
 // If the bit of user block `from` begins a byte, the blocks whose bytes are all `byte` are passed from there on. A byte that has
 // ignored bits is not.
 fn pass_bytes(image: &[u8], m: Measures, from: usize, byte: u8) -> usize
-    requires { ⌜ Over (now image) (m .size) ⌝ }
+    requires { ⌜ HasMeasures (now image) (m .size) ⌝ }
     requires { ⌜ (1 ≤ from) × (from ≤ firstBitmap (m .size)) ⌝ }
     ensures { λ r. ⌜ Passed (now (image .entry)) byte from r ⌝ }
 {
@@ -76,7 +79,7 @@ fn pass_bytes(image: &[u8], m: Measures, from: usize, byte: u8) -> usize
 
 // The lowest free user block: bytes of 0 have none, and the bits of the first other byte are looked at one by one.
 pub fn lowest_free(image: &[u8], m: Measures) -> Found
-    requires { ⌜ Over (now image) (m .size) ⌝ }
+    requires { ⌜ HasMeasures (now image) (m .size) ⌝ }
     ensures { λ r. ⌜ r ≡ asFound (lowestFree (now (image .entry))) ⌝ }
 {
     let end = m.first_bitmap();
@@ -92,7 +95,7 @@ pub fn lowest_free(image: &[u8], m: Measures) -> Found
 
 // The lowest allocated user block from `from` on: bytes of FF have none.
 pub fn lowest_allocated(image: &[u8], m: Measures, from: usize) -> Found
-    requires { ⌜ Over (now image) (m .size) ⌝ }
+    requires { ⌜ HasMeasures (now image) (m .size) ⌝ }
     requires { ⌜ 1 ≤ from ⌝ }
     ensures { λ r. ⌜ r ≡ asFound (lowestAllocated (now (image .entry)) from) ⌝ }
 {
@@ -105,4 +108,25 @@ pub fn lowest_allocated(image: &[u8], m: Measures, from: usize) -> Found
         k = pass_bytes(image, m, k + 1, 255);
     }
     Found::Nothing
+}
+
+// Clears the first n bits of a bitmap whose bytes are all FF: whole bytes, then the high bits of one more.
+fn clear_first(bits: &mut [u8], n: usize)
+    requires { ⌜ (n < 8 * length (now bits)) × IsBlank (now bits) ⌝ }
+    ensures { λ _. ⌜ now (bits .exit) ≡ firstCleared (now (bits .entry)) n ⌝ }
+{
+    let whole = n / 8;
+    fill(&mut bits[0..whole], 0);
+    bits[whole] = 255u8 >> (n % 8);
+}
+
+// The bits of the blocks 1 to n are cleared, where the bitmap is FF.
+pub fn clear_bits(image: &mut [u8], m: Measures, n: usize)
+    requires { ⌜ HasMeasures (now image) (m .size) ⌝ }
+    requires { ⌜ (n ≤ capacity (m .size)) × IsBlank (bitmapOf (now image)) ⌝ }
+    ensures { λ _. ⌜ now (image .exit) ≡ bitsCleared (now (image .entry)) n ⌝ }
+{
+    let first = m.first_bitmap();
+    let at = m.start(first);
+    clear_first(&mut image[at..], n);
 }

@@ -11,11 +11,11 @@ use Rattle.flash_model.specs.Partition.{bitmapOf, allocated}
 use Rattle.flash_model.specs.Update.{bitCleared, withBlock, appended}
 use Rattle.flash_model.proofs.MeasureLaws.{measures-of}
 use Rattle.flash_model.proofs.AppendLaws.{written-bitmap}
-use Rattle.bitmap.specs.Over.{Over}
+use Rattle.measures.specs.HasMeasures.{HasMeasures}
 
 module _ {written : List ℕ} (image new : List ℕ) (k : ℕ) (e : written ≡ withBlock image k new) where
   -- what is written before the bitmap leaves the block free
-  pub still-free : {size : ℕ} → Over image size → 1 ≤ k → k ≤ capacity size → length new ≡ 64 → allocated image k ≡ false → allocated written k ≡ false
+  pub still-free : {size : ℕ} → HasMeasures image size → 1 ≤ k → k ≤ capacity size → length new ≡ 64 → allocated image k ≡ false → allocated written k ≡ false
   unfolding allocated
   still-free o lo hi l free =
       let m = measures-of (length image) (ap legalSize (o .has-size) ∙ o .is-legal) in

@@ -3,6 +3,7 @@ use bitmap::clear_bit;
 use checksum::checksum;
 use measures::BLOCK;
 use measures::Measures;
+use words::copy_page;
 use words::put_word;
 ghost use mathlib.Core.Path.{_≡_};
 ghost use mathlib.Core.Bool.{false};
@@ -12,17 +13,7 @@ ghost use Rattle.flash_model.specs.Measures.{capacity};
 ghost use Rattle.flash_model.specs.UserBlock.{newBlock};
 ghost use Rattle.flash_model.specs.Partition.{allocated};
 ghost use Rattle.flash_model.specs.Update as model;
-ghost use Rattle.bitmap.specs.Over.{Over};
-
-// Copies a page. It goes by an array: the compiler then knows that the two places don't overlap, and moves 16 bytes at a time.
-pub fn copy_page(page: &[u8], to: &mut [u8])
-    requires { ⌜ (length (now page) ≡ 60) × (length (now to) ≡ 60) ⌝ }
-    ensures { λ _. ⌜ now (to .exit) ≡ now (page .entry) ⌝ }
-{
-    let mut copied = [0u8; 60];
-    bytes::copy(page, &mut copied);
-    bytes::copy(&copied, to);
-}
+ghost use Rattle.measures.specs.HasMeasures.{HasMeasures};
 
 // Number, payload and checksum, over all 64 bytes of the part. The checksum is that of the part's own first 62 bytes.
 fn write_block(part: &mut [u8], number: usize, page: &[u8])
@@ -37,7 +28,7 @@ fn write_block(part: &mut [u8], number: usize, page: &[u8])
 
 // Block k of the image gets number, payload and checksum.
 pub fn put_block(image: &mut [u8], m: Measures, k: usize, number: usize, page: &[u8])
-    requires { ⌜ Over (now image) (m .size) ⌝ }
+    requires { ⌜ HasMeasures (now image) (m .size) ⌝ }
     requires { ⌜ (k ≤ capacity (m .size)) × (length (now page) ≡ 60) × (number < 65536) ⌝ }
     ensures { λ _. ⌜ now (image .exit) ≡ model.withBlock (now (image .entry)) k (newBlock number (now (page .entry))) ⌝ }
 {
@@ -48,7 +39,7 @@ pub fn put_block(image: &mut [u8], m: Measures, k: usize, number: usize, page: &
 
 // The free block k gets number, payload and checksum, and its bit is cleared.
 pub fn append(image: &mut [u8], m: Measures, k: usize, number: usize, page: &[u8])
-    requires { ⌜ Over (now image) (m .size) ⌝ }
+    requires { ⌜ HasMeasures (now image) (m .size) ⌝ }
     requires { ⌜ (1 ≤ k) × (k ≤ capacity (m .size)) × (allocated (now image) k ≡ false) ⌝ }
     requires { ⌜ (length (now page) ≡ 60) × (number < 65536) ⌝ }
     ensures { λ _. ⌜ now (image .exit) ≡ model.appended (now (image .entry)) k (newBlock number (now (page .entry))) ⌝ }

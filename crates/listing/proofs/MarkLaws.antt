@@ -21,7 +21,7 @@ use Rattle.flash_model.proofs.MeasureLaws.{legal-below, measures-of}
 use Rattle.flash_model.proofs.HolderLaws.{matches}
 use Rattle.partition.specs.Usable.{Usable}
 use Rattle.partition.specs.declared.opening.Log.{Log}
-use Rattle.partition.proofs.UsableLaws.{usable-over, usable-measured, count-most, holder-some}
+use Rattle.partition.proofs.UsableLaws.{usable-has, usable-measured, count-most, holder-some}
 use Rattle.listing.specs.Listing.{isNew, mark, isKept}
 use Rattle.listing.specs.Passing.{heldBy, PassAt}
 
@@ -45,7 +45,7 @@ new-free end block area e = eqb-true (getD area (number block) 0) 0 (and-true-ri
 pub pass-first : {image : List ℕ} {log : Log} (area : List ℕ) (end : ℕ) → Usable image log → end ≡ capacity (log .m .size) → end ≤ length area
     → PassAt area image (log .m .size) end (log .used)
 pass-first {image} {log} area end u c long = record {
-  is-over = usable-over u;
+  has-measures = usable-has u;
   end-is = c;
   long = long;
   within = omega (arith, c, count-most u);
@@ -64,7 +64,7 @@ not-above p (suc i) k h = go (not-above p i k (omega arith)) (p (suc i))
 not-holder : {area image : List ℕ} {size end k : ℕ} → PassAt area image size end k → ltb (number (blockAt image k)) end ≡ false → isHolder image k ≡ false
 unfolding isHolder holder
 not-holder {area} {image} {size} {end} {k} f t =
-    rw (f .is-over .has-size, legal-below size (number (blockAt image k)) (measures-of size (f .is-over .is-legal)), sym (f .end-is), t)
+    rw (f .has-measures .has-size, legal-below size (number (blockAt image k)) (measures-of size (f .has-measures .is-legal)), sym (f .end-is), t)
 
 module _ {area image : List ℕ} {size end k : ℕ} (low : 1 ≤ k) (f : PassAt area image size end k) where
   abbrev b : ℕ
@@ -78,7 +78,7 @@ module _ {area image : List ℕ} {size end k : ℕ} (low : 1 ≤ k) (f : PassAt 
   -- no number without a mark has the block
   passed : ((n : ℕ) → n < end → getD area n 0 ≡ 0 → matches n (blockAt image k) ≡ false) → PassAt area image size end (k - 1)
   passed none-new = record {
-    is-over = f .is-over;
+    has-measures = f .has-measures;
     end-is = f .end-is;
     long = f .long;
     within = omega (arith, f .within);
@@ -119,7 +119,7 @@ module _ {area image : List ℕ} {size end k : ℕ} (low : 1 ≤ k) (f : PassAt 
 
     stored : rightChecksum (blockAt image k) ≡ true → PassAt (set area b 1) image size end (k - 1)
     stored right = record {
-      is-over = f .is-over;
+      has-measures = f .has-measures;
       end-is = f .end-is;
       long = omega (arith, f .long, length-set area b 1);
       within = omega (arith, f .within);

@@ -11,7 +11,7 @@ use Rattle.words.specs.Search.{highest}
 use Rattle.flash_model.specs.Measures.{capacity}
 use Rattle.flash_model.specs.UserBlock.{number, rightChecksum}
 use Rattle.flash_model.specs.Partition.{blockAt, holder}
-use Rattle.bitmap.specs.Over.{Over}
+use Rattle.measures.specs.HasMeasures.{HasMeasures}
 use Rattle.listing.specs.Listing.{isNew, keptBlocks}
 
 -- The highest of the blocks 1 to k that has the number and a right checksum.
@@ -20,7 +20,7 @@ heldBy image k n = highest (λ j. eqb (number (blockAt image j)) n && rightCheck
 
 -- The pass is at block k, and those above are passed: what holds the contents of a number that has no mark is k or below it.
 pub record PassAt (area image : List ℕ) (size end k : ℕ) : Type 0 where
-  pub is-over : Over image size
+  pub has-measures : HasMeasures image size
   pub end-is : end ≡ capacity size
   pub long : end ≤ length area
   pub within : k ≤ end

@@ -8,7 +8,7 @@ use words::word;
 ghost use mathlib.Core.Path.{_≡_};
 ghost use mathlib.Core.Bool.{true, false};
 ghost use Prim.Native.Nat.{_+_, _-_, _≤_, _<_};
-ghost use lib.ListN.{length, take, drop, set};
+ghost use lib.ListN.{length, drop, set};
 ghost use Rattle.flash_model.specs.Measures.{capacity};
 ghost use Rattle.flash_model.specs.UserBlock.{number};
 ghost use Rattle.flash_model.specs.Partition.{live, lowestLive};
@@ -22,11 +22,11 @@ pub enum Next {
     Nothing,
 }
 
-// Whether the block that begins the part may be one to enter: its number is below `end` and has no mark. No checksum is worked
+// Whether the block that the part is may be one to enter: its number is below `end` and has no mark. No checksum is worked
 // for one that may not.
 fn is_new(part: &[u8], end: usize, area: &[u8]) -> bool
-    requires { ⌜ (64 ≤ length (now part)) × (end ≤ length (now area)) ⌝ }
-    ensures { λ r. ⌜ r ≡ isNew end (take 64 (now (part .entry))) (now (area .entry)) ⌝ }
+    requires { ⌜ (length (now part) ≡ 64) × (end ≤ length (now area)) ⌝ }
+    ensures { λ r. ⌜ r ≡ isNew end (now (part .entry)) (now (area .entry)) ⌝ }
 {
     let number = word(part, 0);
     if end <= number {
@@ -35,12 +35,12 @@ fn is_new(part: &[u8], end: usize, area: &[u8]) -> bool
     area[number] == 0
 }
 
-// Marks the number of the block that begins the part, which has no mark, if the checksum is right. The mark, 1 or 0, is stored in
+// Marks the number of the block that the part is, which has no mark, if the checksum is right. The mark, 1 or 0, is stored in
 // any case, so that no branch waits for the checksum. The answer is how many numbers were marked.
 fn enter(part: &[u8], area: &mut [u8]) -> usize
-    requires { ⌜ (64 ≤ length (now part)) × (number (take 64 (now part)) < length (now area)) ⌝ }
-    ensures { λ r. ⌜ (r ≡ mark (take 64 (now (part .entry)))) × (r ≤ 1) ⌝ }
-    ensures { λ r. ⌜ now (area .exit) ≡ set (now (area .entry)) (number (take 64 (now (part .entry)))) r ⌝ }
+    requires { ⌜ (length (now part) ≡ 64) × (number (now part) < length (now area)) ⌝ }
+    ensures { λ r. ⌜ (r ≡ mark (now (part .entry))) × (r ≤ 1) ⌝ }
+    ensures { λ r. ⌜ now (area .exit) ≡ set (now (area .entry)) (number (now (part .entry))) r ⌝ }
 {
     let mark: u8 = if right_checksum(part) { 1 } else { 0 };
     area[word(part, 0)] = mark;
@@ -160,12 +160,12 @@ pub fn list_kept(image: &[u8], log: Log, area: &mut [u8], kept: &mut [u16]) -> u
     count
 }
 
-// The lower of `best` and the number of the block that begins this part, if that is not below the start and the checksum is
+// The lower of `best` and the number of the block that this part is, if that is not below the start and the checksum is
 // right, which is worked only where the number would be the new best. One test decides that: numbers stand in any order, and of
 // two tests one would often go the way that the processor did not expect.
 fn lower(part: &[u8], start: usize, best: usize) -> usize
-    requires { ⌜ 64 ≤ length (now part) ⌝ }
-    ensures { λ r. ⌜ r ≡ lowered start (take 64 (now (part .entry))) best ⌝ }
+    requires { ⌜ length (now part) ≡ 64 ⌝ }
+    ensures { λ r. ⌜ r ≡ lowered start (now (part .entry)) best ⌝ }
 {
     let number = word(part, 0);
     if (number < start) | (best <= number) {

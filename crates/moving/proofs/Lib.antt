@@ -1,3 +1,3 @@
 pub mod MoveLaws
-pub mod BitLaws
+pub mod BlankLaws
 pub mod ConservedLaws

@@ -2,7 +2,7 @@
 use Prim.Native.Nat.{ℕ, suc, _+_, _*_, _≤_}
 use mathlib.Core.Path.{_≡_}
 use mathlib.Core.List.{List, [], _∷_, _++_, map}
-use lib.ListN.{length, take, replicate}
+use lib.ListN.{length, take}
 use Rattle.words.specs.Lists.{concat}
 use Rattle.flash_model.specs.Partition.{blockAt}
 
@@ -16,7 +16,3 @@ pub record AllMoved (kept image image′ : List ℕ) (next : ℕ) : Type 0 where
   pub front-is : take (next * 64) image′ ≡ take 64 image ++ concat (map (blockAt image) kept)
   pub next-is : next ≡ suc (length kept)
   pub same-length : length image′ ≡ length image
-
--- All bytes are FF.
-abbrev pub IsBlank : List ℕ → Type 0
-IsBlank bytes = bytes ≡ replicate (length bytes) 255

@@ -1,17 +1,17 @@
 // Blocks of a rising list, moved down to 1, 2, 3 and on; then FF, and the bits of what stands there.
+use bitmap::clear_bits;
 use measures::BLOCK;
 use measures::Measures;
 use words::fill;
 ghost use mathlib.Core.Path.{_≡_};
 ghost use mathlib.Core.List.{_++_};
-ghost use Prim.Native.Nat.{_+_, _-_, _*_, _≤_, _<_};
+ghost use Prim.Native.Nat.{_+_, _-_, _*_, _≤_};
 ghost use lib.ListN.{length, take, replicate};
 ghost use Rattle.flash_model.specs.Measures.{capacity};
-ghost use Rattle.flash_model.specs.Bitmap.{firstCleared};
-ghost use Rattle.flash_model.specs.Partition.{blockAt, bitmapOf};
+ghost use Rattle.flash_model.specs.Partition.{blockAt};
 ghost use Rattle.flash_model.specs.Update as model;
-ghost use Rattle.bitmap.specs.Over.{Over};
-ghost use Rattle.moving.specs.Moving.{RisingBlocks, AllMoved, IsBlank};
+ghost use Rattle.measures.specs.HasMeasures.{HasMeasures};
+ghost use Rattle.moving.specs.Moving.{RisingBlocks, AllMoved};
 
 // Block `from` copied over block `to`, which is not above it. Where no lower block was dropped it stands there already.
 fn move_block(image: &mut [u8], from: usize, to: usize)
@@ -43,30 +43,9 @@ pub fn keep_blocks(image: &mut [u8], kept: &[u16]) -> usize
     to
 }
 
-// Clears the first n bits of a bitmap whose bytes are all FF: whole bytes, then the high bits of one more.
-fn clear_first(bits: &mut [u8], n: usize)
-    requires { ⌜ (n < 8 * length (now bits)) × IsBlank (now bits) ⌝ }
-    ensures { λ _. ⌜ now (bits .exit) ≡ firstCleared (now (bits .entry)) n ⌝ }
-{
-    let whole = n / 8;
-    fill(&mut bits[0..whole], 0);
-    bits[whole] = 255u8 >> (n % 8);
-}
-
-// The bits of the blocks 1 to n are cleared, where the bitmap is FF.
-fn clear_bits(image: &mut [u8], m: Measures, n: usize)
-    requires { ⌜ Over (now image) (m .size) ⌝ }
-    requires { ⌜ (n ≤ capacity (m .size)) × IsBlank (bitmapOf (now image)) ⌝ }
-    ensures { λ _. ⌜ now (image .exit) ≡ model.bitsCleared (now (image .entry)) n ⌝ }
-{
-    let first = m.first_bitmap();
-    let at = m.start(first);
-    clear_first(&mut image[at..], n);
-}
-
 // FF from block `next` to the end, but for the bits of the blocks below it.
 pub fn finish(image: &mut [u8], m: Measures, next: usize)
-    requires { ⌜ Over (now image) (m .size) ⌝ }
+    requires { ⌜ HasMeasures (now image) (m .size) ⌝ }
     requires { ⌜ (1 ≤ next) × (next ≤ capacity (m .size) + 1) ⌝ }
     ensures { λ _. ⌜ now (image .exit) ≡ model.bitsCleared (take (next * 64) (now (image .entry)) ++ replicate (m .size - next * 64) 255) (next - 1) ⌝ }
 {

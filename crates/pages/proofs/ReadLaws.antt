@@ -1,14 +1,12 @@
 -- Reading: each way out of the functions is a row of the table. Assumes nothing.
-use Prim.Native.Nat.{ℕ, suc, _+_, _-_, _≤_}
-use mathlib.Core.Path.{_≡_, refl, sym, ap, _∙_}
+use Prim.Native.Nat.{ℕ, suc, _-_, _≤_}
+use mathlib.Core.Path.{_≡_, sym, ap, _∙_}
 use mathlib.Core.Bool.{Bool, true, false}
 use mathlib.Core.List.{List}
-use mathlib.Core.Option.{Option, none, some, Option·map}
+use mathlib.Core.Option.{none, some, Option·map}
 use native.Mathlib.Omega.{arith}
 use lib.ListN.{length, take, drop}
-use lib.Seq.{take-take}
 use borrow.Author.Tests.{ne-eqb}
-use Rattle.words.proofs.ListLaws.{take-drop}
 use Rattle.flash_model.specs.Measures.{capacity, legalNumber}
 use Rattle.flash_model.specs.UserBlock.{payload}
 use Rattle.flash_model.specs.Partition.{blockAt, contents, holder}
@@ -34,11 +32,10 @@ pub found-high : {image : List ℕ} {log : Log} → Usable image log → (n k : 
 found-high {image} u n k e =
     omega (arith, holder-held image n k (found-at (holder image n) k e) .highest-one .high, ap capacity (u .has-size))
 
--- the payload is handed on from the part that begins with the block
-pub payload-part : (part block : List ℕ) → take 64 part ≡ block → take (62 - 2) (drop 2 part) ≡ payload block
+-- the payload is handed on from the part that the block is
+pub payload-part : (part block : List ℕ) → part ≡ block → take (62 - 2) (drop 2 part) ≡ payload block
 unfolding payload
-payload-part part block e =
-    take-drop 2 60 part ∙ ap (drop 2) (sym (take-take (2 + 60) 64 part (omega arith))) ∙ sym (take-drop 2 60 (take 64 part)) ∙ ap (λ (b : List ℕ). take 60 (drop 2 b)) e
+payload-part part block e = ap (λ (b : List ℕ). take 60 (drop 2 b)) e
 
 -- ---- read
 

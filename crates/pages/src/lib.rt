@@ -1,10 +1,10 @@
 // Reads and saves of one page, on a partition that refusals 1 to 5 don't apply to.
 use bitmap::Found;
-use journal::copy_page;
 use loads::little8;
 use partition::blocks::find;
 use partition::blocks::part_from;
 use partition::opening::Log;
+use words::copy_page;
 use words::same;
 ghost use mathlib.Core.Path.{_≡_};
 ghost use mathlib.Core.Bool.{true, cond};
@@ -52,7 +52,7 @@ fn wrong_lengths(expected: &[u8], page: &[u8]) -> bool
     expected.len() != 60
 }
 
-// Whether a run is the same as a page: seven words of eight bytes, and four bytes. Over all 60 bytes `same` is compiled to steps of
+// Whether a run is the same as a page: seven words of eight bytes, and four bytes. HasMeasures all 60 bytes `same` is compiled to steps of
 // eight with more between them than in them.
 fn same_page(page: &[u8], other: &[u8]) -> bool
     requires { ⌜ length (now page) ≡ 60 ⌝ }
@@ -102,7 +102,7 @@ fn can_append(image: &[u8], log: Log) -> bool
         return false;
     }
     let block = part_from(image, log.m, log.used + 1);
-    same(&block[0..64], &[255u8; 64])
+    same(block, &[255u8; 64])
 }
 
 // The accepted save: an append where it can be had, else a compaction.

@@ -17,7 +17,7 @@ use Rattle.flash_model.specs.Partition.{magic, headerNumber, version, bitmapOf,
 use Rattle.flash_model.proofs.MeasureLaws.{Measured, measures-of}
 use Rattle.flash_model.proofs.SequenceLaws.{UpTo, up-to-one, passes-below}
 use Rattle.flash_model.proofs.SoundLaws.{used-most, order-used, up-to-order}
-use Rattle.bitmap.specs.Over.{Over}
+use Rattle.measures.specs.HasMeasures.{HasMeasures}
 use Rattle.bitmap.specs.Found.{lowestAllocated}
 use Rattle.measures.specs.declared.Measures.{Measures}
 use Rattle.partition.specs.Opening.{headerRefusal, logOf, openingOf}
@@ -60,8 +60,8 @@ module _ (image : List ℕ) (partition : ℕ) where
         go true q e = refl
         go false q e = absurd (omega arith)
 
-    pub open-over : (size : ℕ) → size ≡ length image → Over image size
-    open-over size e = record { has-size = sym e; is-legal = rw e open-legal }
+    pub open-has : (size : ℕ) → size ≡ length image → HasMeasures image size
+    open-has size e = record { has-size = sym e; is-legal = rw e open-legal }
 
     -- ---- the sequence, where the blocks up to n are allocated and no other
 

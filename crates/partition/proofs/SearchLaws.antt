@@ -1,10 +1,9 @@
 -- The search for a number's contents: where it begins, what it passes, what it finds and how it ends. Assumes nothing.
 use Prim.Native.Nat.{ℕ, _-_, _≤_, _<_}
-use mathlib.Core.Path.{_≡_, sym, ap, _∙_}
+use mathlib.Core.Path.{_≡_, sym, ap}
 use mathlib.Core.Bool.{Bool, true, false, _&&_}
 use mathlib.Core.List.{List}
 use lib.Dec.{eqb}
-use lib.ListN.{take}
 use Rattle.words.specs.Words.{word}
 use Rattle.words.proofs.LoopLaws.{highest-here, highest-next, highest-end}
 use Rattle.flash_model.specs.Measures.{legalNumber}
@@ -16,7 +15,7 @@ use Rattle.bitmap.specs.declared.Found.the-variants.{At, Nothing}
 use Rattle.partition.specs.Usable.{Usable}
 use Rattle.partition.specs.declared.opening.Log.{Log}
 use Rattle.partition.specs.Search.{foundUpTo}
-use Rattle.partition.proofs.PartLaws.{number-front}
+use Rattle.partition.proofs.PartLaws.{number-is}
 use Rattle.partition.proofs.UsableLaws.{holder-some}
 
 pub from-used : {image : List ℕ} {log : Log} → Usable image log → (n : ℕ) → legalNumber (log .m .size) n ≡ true
@@ -33,12 +32,12 @@ module _ (image : List ℕ) (n k : ℕ) where
   unfolding foundUpTo
   passed h e = ap asFound (highest-next (λ j. matches n (blockAt image j)) k h e)
 
-  pub has-number-test : (part : List ℕ) → take 64 part ≡ blockAt image k → (w : ℕ) → w ≡ word part 0 → {t : Bool} → eqb w n ≡ t
+  pub has-number-test : (part : List ℕ) → part ≡ blockAt image k → (w : ℕ) → w ≡ word part 0 → {t : Bool} → eqb w n ≡ t
       → eqb (number (blockAt image k)) n ≡ t
-  has-number-test part p w e {t} f = rw (sym p, number-front part, sym e) f
+  has-number-test part p w e {t} f = rw (sym p, number-is part, sym e) f
 
   -- a block is passed for its number alone
-  pub other-number : (part : List ℕ) → take 64 part ≡ blockAt image k → (w : ℕ) → w ≡ word part 0 → eqb w n ≡ false → matches n (blockAt image k) ≡ false
+  pub other-number : (part : List ℕ) → part ≡ blockAt image k → (w : ℕ) → w ≡ word part 0 → eqb w n ≡ false → matches n (blockAt image k) ≡ false
   other-number part p w e f = ap (λ (b : Bool). b && rightChecksum (blockAt image k)) (has-number-test part p w e f)
 
   pub none-left : k ≤ 0 → foundUpTo image n k ≡ Nothing

@@ -10,7 +10,7 @@ use Rattle.flash_model.specs.Partition.{blockAt, holder, used}
 use Rattle.flash_model.proofs.MeasureLaws.{Measured, measures-of}
 use Rattle.flash_model.proofs.SoundLaws.{tests-of, used-most, allocated-used}
 use Rattle.flash_model.proofs.HolderLaws.{matches, holder-used}
-use Rattle.bitmap.specs.Over.{Over}
+use Rattle.measures.specs.HasMeasures.{HasMeasures}
 use Rattle.partition.specs.Usable.{Usable}
 use Rattle.partition.specs.declared.opening.Log.{Log}
 
@@ -18,8 +18,8 @@ module _ {image : List ℕ} {log : Log} (u : Usable image log) where
   pub usable-legal : legalSize (log .m .size) ≡ true
   usable-legal = subst (λ (n : ℕ). legalSize n ≡ true) (u .has-size) (tests-of image (u .is-sound) .legal)
 
-  pub usable-over : Over image (log .m .size)
-  usable-over = record { has-size = u .has-size; is-legal = usable-legal }
+  pub usable-has : HasMeasures image (log .m .size)
+  usable-has = record { has-size = u .has-size; is-legal = usable-legal }
 
   pub usable-measured : Measured (log .m .size)
   usable-measured = measures-of (log .m .size) usable-legal

@@ -1,4 +1,4 @@
-// User blocks, each read from the part of the image that begins with it, and the search for a number's contents.
+// User blocks, each read from the part of the image that it is, and the search for a number's contents.
 use crate::opening::Log;
 use bitmap::Found;
 use measures::BLOCK;
@@ -7,37 +7,37 @@ use words::word;
 ghost use mathlib.Core.Path.{_≡_};
 ghost use mathlib.Core.Bool.{true, false};
 ghost use Prim.Native.Nat.{_-_, _≤_};
-ghost use lib.ListN.{length, take};
+ghost use lib.ListN.{length};
 ghost use Rattle.flash_model.specs.UserBlock as model;
 ghost use Rattle.flash_model.specs.Measures.{capacity, legalNumber};
 ghost use Rattle.flash_model.specs.Partition.{blockAt, holder};
-ghost use Rattle.bitmap.specs.Over.{Over};
+ghost use Rattle.measures.specs.HasMeasures.{HasMeasures};
 ghost use Rattle.bitmap.specs.Found.{asFound};
 ghost use Rattle.partition.specs.Usable.{Usable};
 ghost use Rattle.partition.specs.Search.{foundUpTo, NextNumbered};
 
 // The part of the image that block k is.
 pub fn part_from(image: &[u8], m: Measures, k: usize) -> &[u8]
-    requires { ⌜ Over (now image) (m .size) ⌝ }
+    requires { ⌜ HasMeasures (now image) (m .size) ⌝ }
     requires { ⌜ k ≤ capacity (m .size) ⌝ }
-    ensures { λ r. ⌜ (take 64 (now r) ≡ blockAt (now (image .entry)) k) × (64 ≤ length (now r)) ⌝ }
+    ensures { λ r. ⌜ (now r ≡ blockAt (now (image .entry)) k) × (length (now r) ≡ 64) ⌝ }
 {
     let at = m.start(k);
     let end = at + BLOCK;
     &image[at..end]
 }
 
-// Whether the block that begins this part has a right checksum.
+// Whether the block that this part is has a right checksum.
 pub fn right_checksum(part: &[u8]) -> bool
-    requires { ⌜ 64 ≤ length (now part) ⌝ }
-    ensures { λ r. ⌜ r ≡ model.rightChecksum (take 64 (now (part .entry))) ⌝ }
+    requires { ⌜ length (now part) ≡ 64 ⌝ }
+    ensures { λ r. ⌜ r ≡ model.rightChecksum (now (part .entry)) ⌝ }
 {
     word(part, 62) == checksum::checksum(&part[0..62]) as usize
 }
 
 // Whether one of the eight blocks up to k has the number. The loop has no way out, so that it is compiled to eight tests in a row.
 fn any_of_eight(image: &[u8], m: Measures, k: usize, number: usize) -> bool
-    requires { ⌜ Over (now image) (m .size) ⌝ }
+    requires { ⌜ HasMeasures (now image) (m .size) ⌝ }
     requires { ⌜ (8 ≤ k) × (k ≤ capacity (m .size)) ⌝ }
     ensures { λ r. ⌜ (r ≡ false → foundUpTo (now (image .entry)) number k ≡ foundUpTo (now (image .entry)) number (k - 8)) ⌝ }
 {
@@ -52,7 +52,7 @@ fn any_of_eight(image: &[u8], m: Measures, k: usize, number: usize) -> bool
 
 // From `top` down, the block where the search goes on: eights none of which has the number are passed.
 fn pass_eights(image: &[u8], m: Measures, top: usize, number: usize) -> usize
-    requires { ⌜ Over (now image) (m .size) ⌝ }
+    requires { ⌜ HasMeasures (now image) (m .size) ⌝ }
     requires { ⌜ top ≤ capacity (m .size) ⌝ }
     ensures { λ r. ⌜ (r ≤ top) × (foundUpTo (now (image .entry)) number top ≡ foundUpTo (now (image .entry)) number r) ⌝ }
 {
@@ -68,7 +68,7 @@ fn pass_eights(image: &[u8], m: Measures, top: usize, number: usize) -> usize
 
 // The highest block up to `top` that has the number, or 0: looked for one by one only where one of eight has it.
 fn numbered(image: &[u8], m: Measures, top: usize, number: usize) -> usize
-    requires { ⌜ Over (now image) (m .size) ⌝ }
+    requires { ⌜ HasMeasures (now image) (m .size) ⌝ }
     requires { ⌜ top ≤ capacity (m .size) ⌝ }
     ensures { λ r. ⌜ NextNumbered (now (image .entry)) number top r ⌝ }
 {

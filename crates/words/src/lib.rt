@@ -55,3 +55,14 @@ pub fn fill(part: &mut [u8], value: u8)
         i += 1;
     }
 }
+
+// Copies the 60 bytes of a page. They go by an array: the compiler then knows that the two places don't overlap, and moves 16
+// bytes at a time.
+pub fn copy_page(page: &[u8], to: &mut [u8])
+    requires { ⌜ (length (now page) ≡ 60) × (length (now to) ≡ 60) ⌝ }
+    ensures { λ _. ⌜ now (to .exit) ≡ now (page .entry) ⌝ }
+{
+    let mut copied = [0u8; 60];
+    bytes::copy(page, &mut copied);
+    bytes::copy(&copied, to);
+}

@@ -1,6 +1,6 @@
 -- `bitmap::lowest_allocated` meets its contract. The loop's invariant: the lowest allocated block is the lowest of those
 -- left. Assumes nothing.
-use Prim.Native.Nat.{ℕ, _+_, _-_, _≤_}
+use Prim.Native.Nat.{ℕ, _-_, _≤_}
 use mathlib.Core.Path.{_≡_, sym, ap, _∙_}
 use native.Mathlib.Omega.{arith}
 use Rattle.words.specs.Search.{lowest}
@@ -8,7 +8,7 @@ use Rattle.words.proofs.LoopLaws.{lowest-here, lowest-next, lowest-end}
 use Rattle.flash_model.specs.Measures.{firstBitmap, capacity}
 use Rattle.flash_model.specs.Partition.{allocated}
 use Rattle.bitmap.specs.Found.{asFound, lowestAllocated}
-use Rattle.bitmap.proofs.BitReads.{over-measured}
+use Rattle.measures.proofs.WithinLaws.{measured}
 use Rattle.bitmap.proofs.PassLaws.{ones-passed}
 use borrow.Author.Needs.{needs}
 use Rattle.bitmap.proofs.lowest_allocated.Statement.{statement}
@@ -21,8 +21,8 @@ abbrev μ-loop : tie.MeasureT-loop
 μ-loop image m from end k₀ k = end - k
 
 -- from the loop's head, and from a block's test, back
-abbrev measured : tie.At-loop Inv-loop μ-loop → tie.After-first-bitmap Inv-loop μ-loop
-measured c = c .before
+abbrev begun : tie.At-loop Inv-loop μ-loop → tie.After-first-bitmap Inv-loop μ-loop
+begun c = c .before
 
 abbrev start : tie.After-first-bitmap Inv-loop μ-loop → tie.Start Inv-loop μ-loop
 start c = c .before .before
@@ -37,23 +37,23 @@ loop-holds c =
     (a .pre .1, ap (λ (end : ℕ). lowest (allocated (a .args .image .now)) (a .args .from) (end - a .args .from)) (ap firstBitmap (a .pre .0 .has-size) ∙ sym (c .first-bitmap .ensures)))
 
 -- a block that is looked at is a user block
-is-user : (c : tie.In-loop Inv-loop μ-loop) → c .before .loop .k ≤ capacity (start (measured (c .before)) .args .m .size)
+is-user : (c : tie.In-loop Inv-loop μ-loop) → c .before .loop .k ≤ capacity (start (begun (c .before)) .args .m .size)
 is-user c =
-    let f = measured (c .before) in
+    let f = begun (c .before) in
     let a = start f in
-    omega (arith, c .loop-test .taken, f .first-bitmap .ensures, over-measured (a .args .image .now) (a .args .m .size) (a .pre .0) .first-bitmap)
+    omega (arith, c .loop-test .taken, f .first-bitmap .ensures, measured (a .pre .0) .first-bitmap)
 
 pass-bytes-requires : tie.Need-pass-bytes-requires Inv-loop μ-loop
 pass-bytes-requires c κs =
     let t = c .before in
-    let f = measured (head t) in
+    let f = begun (head t) in
     (start f .pre .0, (omega arith, omega (arith, t .before .loop-test .taken, f .first-bitmap .ensures)))
 
 returns : tie.Need-returns Inv-loop μ-loop
 returns c =
     let t = c .before in
     let l = head t in
-    let f = measured l in
+    let f = begun l in
     sym (ap asFound (l .loop .inv .1
     ∙ lowest-here (allocated (start f .args .image .now)) (l .loop .k) (f .first-bitmap .result) (t .before .loop-test .taken) (sym (t .is-allocated .ensures) ∙ c .if1 .taken)))
 
@@ -62,7 +62,7 @@ loop-again c =
     let e = c .before in
     let t = e .before in
     let l = head t in
-    let f = measured l in
+    let f = begun l in
     let a = start f in (
       omega (arith, c .pass-bytes .ensures .low),
       l .loop .inv .1
@@ -73,7 +73,7 @@ loop-again c =
 returns-2 : tie.Need-returns-2 Inv-loop μ-loop
 returns-2 c =
     let l = c .before in
-    let f = measured l in
+    let f = begun l in
     sym (ap asFound (l .loop .inv .1 ∙ lowest-end (allocated (start f .args .image .now)) (l .loop .k) (f .first-bitmap .result) (c .loop-test .left)))
 
 pub lowest-allocated-spec : {M : Type 1} → statement M
@@ -84,7 +84,7 @@ lowest-allocated-spec =
     μ-loop
     (λ c κs. search needs)
     loop-holds
-    (λ c κs. (start (measured (c .before)) .pre .0, (c .before .loop .inv .0, is-user c)))
+    (λ c κs. (start (begun (c .before)) .pre .0, (c .before .loop .inv .0, is-user c)))
     returns
     (λ c. search needs)
     pass-bytes-requires

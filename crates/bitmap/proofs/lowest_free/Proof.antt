@@ -9,7 +9,7 @@ use Rattle.words.specs.Search.{lowest}
 use Rattle.words.proofs.LoopLaws.{lowest-here, lowest-next, lowest-end}
 use Rattle.flash_model.specs.Partition.{allocated, lowestFree}
 use Rattle.bitmap.specs.Found.{asFound}
-use Rattle.bitmap.proofs.BitReads.{over-measured}
+use Rattle.measures.proofs.WithinLaws.{measured}
 use Rattle.bitmap.proofs.PassLaws.{zeros-passed}
 use borrow.Author.Needs.{needs}
 use Rattle.bitmap.proofs.lowest_free.Statement.{statement}
@@ -25,8 +25,8 @@ abbrev μ-loop : tie.MeasureT-loop
 μ-loop image m end k₀ k = end - k
 
 -- from the loop's head, and from a block's test, back
-abbrev measured : tie.At-loop Inv-loop μ-loop → tie.After-first-bitmap Inv-loop μ-loop
-measured c = c .before .before
+abbrev begun : tie.At-loop Inv-loop μ-loop → tie.After-first-bitmap Inv-loop μ-loop
+begun c = c .before .before
 
 abbrev start : tie.After-first-bitmap Inv-loop μ-loop → tie.Start Inv-loop μ-loop
 start c = c .before .before
@@ -43,15 +43,15 @@ loop-holds c =
 is-allocated-requires : tie.Need-is-allocated-requires Inv-loop μ-loop
 is-allocated-requires c κs =
     let l = c .before in
-    let f = measured l in
+    let f = begun l in
     let a = start f in
-    (a .pre, (l .loop .inv .0, omega (arith, c .loop-test .taken, f .first-bitmap .ensures, over-measured (a .args .image .now) (a .args .m .size) (a .pre) .first-bitmap)))
+    (a .pre, (l .loop .inv .0, omega (arith, c .loop-test .taken, f .first-bitmap .ensures, measured (a .pre) .first-bitmap)))
 
 returns : tie.Need-returns Inv-loop μ-loop
 returns c =
     let t = c .before in
     let l = head t in
-    let f = measured l in
+    let f = begun l in
     sym (ap asFound (l .loop .inv .1
     ∙ lowest-here (free (start f .args .image .now)) (l .loop .k) (f .first-bitmap .result) (t .before .loop-test .taken) (ap not (sym (t .is-allocated .ensures)) ∙ c .if1 .taken)))
 
@@ -59,7 +59,7 @@ loop-again : tie.Need-loop-again Inv-loop μ-loop
 loop-again c =
     let t = c .before in
     let l = head t in
-    let f = measured l in (
+    let f = begun l in (
       omega arith,
       l .loop .inv .1
           ∙ lowest-next (free (start f .args .image .now)) (l .loop .k) (f .first-bitmap .result) (t .before .loop-test .taken) (ap not (sym (t .is-allocated .ensures)) ∙ c .if1 .left),
@@ -68,7 +68,7 @@ loop-again c =
 returns-2 : tie.Need-returns-2 Inv-loop μ-loop
 returns-2 c =
     let l = c .before in
-    let f = measured l in
+    let f = begun l in
     sym (ap asFound (l .loop .inv .1 ∙ lowest-end (free (start f .args .image .now)) (l .loop .k) (f .first-bitmap .result) (c .loop-test .left)))
 
 pub lowest-free-spec : {M : Type 1} → statement M
@@ -78,7 +78,7 @@ lowest-free-spec =
     Inv-loop
     μ-loop
     (λ c κs. search needs)
-    (λ c κs. (c .before .before .pre, (omega arith, omega (arith, over-measured _ _ (c .before .before .pre) .first-bitmap))))
+    (λ c κs. (c .before .before .pre, (omega arith, omega (arith, measured (c .before .before .pre) .first-bitmap))))
     loop-holds
     is-allocated-requires
     returns

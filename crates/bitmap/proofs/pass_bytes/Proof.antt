@@ -5,7 +5,7 @@ use native.Mathlib.Omega.{arith}
 use mathlib.Core.Path.{ap}
 use lib.ListN.{length}
 use Rattle.flash_model.specs.Measures.{firstBitmap, capacity}
-use Rattle.bitmap.proofs.BitReads.{over-measured}
+use Rattle.measures.proofs.WithinLaws.{measured}
 use Rattle.bitmap.proofs.PassLaws.{passed-none, whole-bytes, run-passed}
 use borrow.Author.Needs.{needs}
 use Rattle.bitmap.proofs.pass_bytes.Statement.{statement}
@@ -23,7 +23,7 @@ inside c =
 below-end : (c : tie.After-start) → c .before .first-bitmap .result ≤ capacity (start c .args .m .size) + 1
 below-end c =
     let a = start c in
-    omega (arith, c .before .first-bitmap .ensures, over-measured (a .args .image .now) (a .args .m .size) (a .pre .0) .first-bitmap)
+    omega (arith, c .before .first-bitmap .ensures, measured (a .pre .0) .first-bitmap)
 
 returns : tie.Need-returns
 returns c =

@@ -4,7 +4,7 @@ use mathlib.Core.Path.{refl, _∙_}
 use native.Mathlib.Omega.{arith}
 use lib.ListN.{length-set}
 use Rattle.flash_model.specs.Measures.{capacity}
-use Rattle.partition.proofs.UsableLaws.{usable-legal, usable-over, usable-measured}
+use Rattle.partition.proofs.UsableLaws.{usable-legal, usable-has, usable-measured}
 use Rattle.listing.proofs.AreaLaws.{numbers-enough, blankArea, new-area}
 use Rattle.compaction.proofs.CompactionLaws.{others-high, compact-is, number-low}
 use borrow.Author.Needs.{needs}
@@ -39,7 +39,7 @@ put-block-requires : tie.Need-put-block-requires
 put-block-requires c κs =
     let k = c .before .before .before .before in
     let a = k .before .before .before .before .before in
-    let o = usable-over (a .pre .0) in (
+    let o = usable-has (a .pre .0) in (
       record { has-size = k .keep-contents .kept .0 ∙ o .has-size; is-legal = o .is-legal },
       (omega (arith, room k, k .keep-contents .ensures .next-is), a .pre .1 .1, omega (arith, inside a)),
     )
@@ -55,7 +55,7 @@ finish-requires c κs =
     let p = c .before .before .before in
     let k = p .before .before .before .before .before in
     let a = k .before .before .before .before .before in
-    let o = usable-over (a .pre .0) in (
+    let o = usable-has (a .pre .0) in (
       record { has-size = p .put-block .kept .0 ∙ k .keep-contents .kept .0 ∙ o .has-size; is-legal = o .is-legal },
       (omega arith, omega (arith, room k)),
     )

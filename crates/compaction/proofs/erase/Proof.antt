@@ -1,7 +1,7 @@
 -- `compaction::erase` meets its contract. Assumes nothing.
 use mathlib.Core.Path.{_∙_}
 use native.Mathlib.Omega.{arith}
-use Rattle.partition.proofs.UsableLaws.{usable-legal, usable-over}
+use Rattle.partition.proofs.UsableLaws.{usable-legal, usable-has}
 use Rattle.listing.proofs.AreaLaws.{numbers-enough, new-area}
 use Rattle.compaction.proofs.CompactionLaws.{erase-low, erase-high, erase-is}
 use borrow.Author.Needs.{needs}
@@ -20,7 +20,7 @@ finish-requires : tie.Need-finish-requires
 finish-requires c κs =
     let k = c .before .before .before .before in
     let a = k .before .before .before .before in
-    let o = usable-over (a .pre) in
+    let o = usable-has (a .pre) in
     let n = erase-low (a .pre) _ new-area _ (k .keep-contents .result) (k .keep-contents .ensures) in
     let h = erase-high (a .pre) _ new-area _ (k .keep-contents .result) (k .keep-contents .ensures) in
     (record { has-size = k .keep-contents .kept .0 ∙ o .has-size; is-legal = o .is-legal }, (omega arith, omega (arith, n, h)))

@@ -1,7 +1,7 @@
 -- `journal::put_block` meets its contract. Assumes nothing.
 use mathlib.Core.Path.{ap, _∙_}
 use Rattle.flash_model.specs.Update.{withBlock}
-use Rattle.journal.proofs.OverLaws.{within}
+use Rattle.measures.proofs.WithinLaws.{within}
 use Rattle.journal.proofs.PartLaws.{put-block}
 use borrow.Author.Needs.{needs}
 use Rattle.journal.proofs.put_block.Statement.{statement}

@@ -3,17 +3,16 @@ use mathlib.Core.Path.{_≡_, sym, _∙_}
 use mathlib.Core.Bool.{true, false}
 use mathlib.Core.Logic.{⊎-elim}
 use native.Mathlib.Omega.{arith}
-use lib.ListN.{take}
 use Rattle.flash_model.specs.UserBlock.{number}
-use Rattle.partition.proofs.PartLaws.{number-front}
+use Rattle.partition.proofs.PartLaws.{number-is}
 use Rattle.listing.proofs.MarkLaws.{mark-is}
 use borrow.Author.Needs.{needs}
 use Rattle.listing.proofs.enter.Statement.{statement}
 use Rattle.listing.proofs.enter.Tie as tie
 
 -- the word that the mark goes to
-number-is : (w : tie.After-word) → number (take 64 (w .before .before .before .before .before .args .part .now)) ≡ w .word .result
-number-is w = number-front (w .before .before .before .before .before .args .part .now) ∙ sym (w .word .ensures .0)
+place-is : (w : tie.After-word) → number (w .before .before .before .before .before .args .part .now) ≡ w .word .result
+place-is w = number-is (w .before .before .before .before .before .args .part .now) ∙ sym (w .word .ensures .0)
 
 right-checksum-requires : tie.Need-right-checksum-requires
 right-checksum-requires c κs = search needs
@@ -22,7 +21,7 @@ word-requires : tie.Need-word-requires
 word-requires c κs = search needs
 
 slice-write-area : tie.Need-slice-write-area
-slice-write-area c = omega (arith, number-is c, c .before .before .before .before .before .pre .1)
+slice-write-area c = omega (arith, place-is c, c .before .before .before .before .before .pre .1)
 
 same-length : tie.Need-same-length
 same-length c = search needs
@@ -32,7 +31,7 @@ returns c =
     let j = c .before .before in
     let right = sym (j .before .right-checksum .ensures) in (
       ⊎-elim (λ w. mark-is _ true _ (right ∙ w .0 .taken) (w .1)) (λ w. mark-is _ false _ (right ∙ w .0 .left) (w .1)) (j .if1 .came),
-      rw (number-is (c .before)),
+      rw (place-is (c .before)),
     )
 
 pub enter-spec : {M : Type 1} → statement M

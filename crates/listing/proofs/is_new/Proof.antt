@@ -2,7 +2,7 @@
 use mathlib.Core.Path.{sym}
 use borrow.Author.Tests.{lt-ltb, le-ltb}
 use Rattle.listing.specs.Listing.{isNew}
-use Rattle.partition.proofs.PartLaws.{number-front}
+use Rattle.partition.proofs.PartLaws.{number-is}
 use borrow.Author.Needs.{needs}
 use Rattle.listing.proofs.is_new.Statement.{statement}
 use Rattle.listing.proofs.is_new.Tie as tie
@@ -15,7 +15,7 @@ unfolding isNew
 returns c =
     let w = c .before in
     let s = w .before .before .before .args in
-    rw (number-front (s .part .now), sym (w .word .ensures .0), le-ltb _ _ (c .if1 .taken))
+    rw (number-is (s .part .now), sym (w .word .ensures .0), le-ltb _ _ (c .if1 .taken))
 
 shared-slice-read-result : tie.Need-shared-slice-read-result
 shared-slice-read-result c = search needs
@@ -25,7 +25,7 @@ unfolding isNew
 returns-2 c =
     let w = c .before .before in
     let s = w .before .before .before .args in
-    rw (number-front (s .part .now), sym (w .word .ensures .0), lt-ltb _ _ (c .before .if1 .left))
+    rw (number-is (s .part .now), sym (w .word .ensures .0), lt-ltb _ _ (c .before .if1 .left))
 
 pub is-new-spec : {M : Type 1} → statement M
 is-new-spec = tie.close (tie.spec word-requires returns shared-slice-read-result returns-2)

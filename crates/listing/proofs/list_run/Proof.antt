@@ -32,7 +32,7 @@ loop-holds c = (omega arith, omega arith, refl, refl, c .before .before .before 
 part-from-requires : tie.Need-part-from-requires Inv-loop μ-loop
 part-from-requires c κs =
     let p = c .before .loop .inv .4 in
-    (p .is-over, omega (arith, p .within, p .end-is))
+    (p .has-measures, omega (arith, p .within, p .end-is))
 
 is-new-requires : tie.Need-is-new-requires Inv-loop μ-loop
 is-new-requires c κs = (c .before .part-from .ensures .1, c .before .before .before .loop .inv .4 .long)
@@ -64,7 +64,7 @@ cast-kept : tie.Need-cast-kept Inv-loop μ-loop
 cast-kept c =
     let l = c .before .before .before .before .before .before .before .before .before in
     let p = l .loop .inv .4 in
-    omega (arith, p .within, p .end-is, measures-of _ (p .is-over .is-legal) .two-bytes)
+    omega (arith, p .within, p .end-is, measures-of _ (p .has-measures .is-legal) .two-bytes)
 
 sub-kept : tie.Need-sub-kept Inv-loop μ-loop
 sub-kept c = omega (arith, room (c .before .before .before .before .before .before .before .before .before))

@@ -1,7 +1,7 @@
 -- `listing::next_number` meets its contract. The loop's invariant: the best so far of the blocks passed. Assumes nothing.
 use Prim.Native.Nat.{_+_, _-_, _≤_}
 use native.Mathlib.Omega.{arith}
-use Rattle.partition.proofs.UsableLaws.{usable-legal, usable-over, usable-measured, count-most}
+use Rattle.partition.proofs.UsableLaws.{usable-legal, usable-has, usable-measured, count-most}
 use Rattle.listing.proofs.NextLaws.{Best, best-first, best-next, next-past, next-start, next-is, next-none}
 use Rattle.listing.proofs.next_number.Statement.{statement}
 use Rattle.listing.proofs.next_number.Tie as tie
@@ -69,7 +69,7 @@ next-number-spec =
     (λ c κs. usable-legal (c .before .pre))
     returns
     (λ c. (omega arith, omega arith, best-first _ _ _))
-    (λ c κs. let u = start (measured (c .before)) .pre in (usable-over u, omega (arith, c .loop-test .taken, count-most u)))
+    (λ c κs. let u = start (measured (c .before)) .pre in (usable-has u, omega (arith, c .loop-test .taken, count-most u)))
     (λ c κs. c .part-from .ensures .1)
     returns-2
     add-k

@@ -5,8 +5,8 @@ use mathlib.Core.List.{List}
 use native.Mathlib.Omega.{arith}
 use Rattle.flash_model.specs.Update.{bitsCleared}
 use Rattle.moving.proofs.MoveLaws.{filled}
-use Rattle.moving.proofs.BitLaws.{blank-bitmap}
-use Rattle.journal.proofs.OverLaws.{within}
+use Rattle.moving.proofs.BlankLaws.{blank-bitmap}
+use Rattle.measures.proofs.WithinLaws.{within}
 use borrow.Author.Needs.{needs}
 use Rattle.moving.proofs.finish.Statement.{statement}
 use Rattle.moving.proofs.finish.Tie as tie

@@ -2,7 +2,7 @@
 use Prim.Native.Nat.{_+_, _<_}
 use native.Mathlib.Omega.{arith}
 use Rattle.flash_model.specs.Measures.{capacity}
-use Rattle.partition.proofs.UsableLaws.{usable-legal, usable-over}
+use Rattle.partition.proofs.UsableLaws.{usable-legal, usable-has}
 use Rattle.pages.proofs.StoreRules.{append-full, append-blank-block}
 use borrow.Author.Needs.{needs}
 use Rattle.pages.proofs.can_append.Statement.{statement}
@@ -25,7 +25,7 @@ returns c =
 
 returns-2 : tie.Need-returns-2
 returns-2 c =
-    let p = c .before .before .before in
+    let p = c .before .before in
     let e = p .before .before in
     let a = start (measured e) in
     append-blank-block (a .pre) (room e) (a .args .log .used + 1) (omega arith) (c .same .result) _ (p .part-from .ensures .0) (c .same .ensures)
@@ -37,10 +37,7 @@ can-append-spec =
     (λ c κs. usable-legal (c .before .pre))
     returns
     (λ c. search needs)
-    (λ c κs. (usable-over (start (measured (c .before)) .pre), omega (arith, room (c .before))))
-    (λ c. search needs)
-    (λ c. search needs)
-    (λ c. search needs)
+    (λ c κs. (usable-has (start (measured (c .before)) .pre), omega (arith, room (c .before))))
     (λ c. search needs)
     (λ c κs. search needs)
     returns-2)

@@ -4,7 +4,7 @@ use mathlib.Core.Path.{sym, ap, _∙_}
 use mathlib.Core.Bool.{true, false}
 use mathlib.Core.List.{List}
 use Rattle.words.specs.Words.{sameBytes}
-use Rattle.partition.proofs.UsableLaws.{usable-over}
+use Rattle.partition.proofs.UsableLaws.{usable-has}
 use Rattle.pages.proofs.ReadLaws.{found-high, payload-part}
 use Rattle.pages.proofs.StoreRules.{nothing-there, page-there, nothing-left, compared}
 use borrow.Author.Needs.{needs}
@@ -48,7 +48,7 @@ part-from-requires : tie.Need-part-from-requires
 part-from-requires c κs =
     let a = c .before .before .before .before .before .before .before in
     let u = a .pre .0 in
-    (usable-over u, found-high u (a .args .number) _ (sym (c .before .before .before .before .find .ensures) ∙ c .before .found .given .1))
+    (usable-has u, found-high u (a .args .number) _ (sym (c .before .before .before .before .find .ensures) ∙ c .before .found .given .1))
 
 sub-same-page : tie.Need-sub-same-page
 sub-same-page c = search needs

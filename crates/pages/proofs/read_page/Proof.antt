@@ -1,7 +1,7 @@
 -- `pages::read_page` meets its contract: each `return` is a row of the table. Assumes nothing.
 use mathlib.Core.Path.{sym, _∙_}
 use borrow.Author.Tests.{not-true, not-false}
-use Rattle.partition.proofs.UsableLaws.{usable-legal, usable-over}
+use Rattle.partition.proofs.UsableLaws.{usable-legal, usable-has}
 use Rattle.pages.proofs.ReadLaws.{contents-none, found-high, payload-part, read-6, read-8, read-7, read-0}
 use borrow.Author.Needs.{needs}
 use Rattle.pages.proofs.read_page.Statement.{statement}
@@ -52,7 +52,7 @@ part-from-requires : tie.Need-part-from-requires
 part-from-requires c κs =
     let a = c .before .before .before .before .before .before .before .before .before in
     let u = a .pre in
-    (usable-over u, found-high u (a .args .number) _ (sym (c .before .before .before .find .ensures) ∙ c .before .k .given .1))
+    (usable-has u, found-high u (a .args .number) _ (sym (c .before .before .before .find .ensures) ∙ c .before .k .given .1))
 
 sub-copy-page : tie.Need-sub-copy-page
 sub-copy-page c = search needs

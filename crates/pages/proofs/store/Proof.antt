@@ -1,11 +1,9 @@
 -- `pages::store` meets its contract. Assumes nothing.
-use Prim.Native.Nat.{_≤_}
 use mathlib.Core.Path.{_≡_, sym, _∙_}
 use mathlib.Core.Bool.{true}
 use native.Mathlib.Omega.{arith}
-use Rattle.flash_model.specs.Measures.{capacity}
 use Rattle.flash_model.specs.Update.{appendBlock}
-use Rattle.partition.proofs.UsableLaws.{usable-measured, usable-over}
+use Rattle.partition.proofs.UsableLaws.{usable-measured, usable-has}
 use Rattle.pages.specs.Rows.{canAppend}
 use Rattle.pages.proofs.StoreRules.{free-behind, appends, saved-append, saved-compact}
 use borrow.Author.Needs.{needs}
@@ -29,7 +27,7 @@ append-requires c κs =
     let u = a .pre .0 in
     let m = usable-measured u in
     let h = appends u (can t) .0 in (
-      usable-over u,
+      usable-has u,
       (
         (omega arith, omega (arith, h), free-behind u _ (omega arith) (omega (arith, h))),
         (a .pre .1 .1, omega (arith, a .pre .1 .0, m .top-number, m .two-bytes)),

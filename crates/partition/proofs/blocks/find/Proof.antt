@@ -8,7 +8,7 @@ use Rattle.flash_model.specs.Partition.{holder}
 use Rattle.bitmap.specs.Found.{asFound}
 use Rattle.partition.specs.Search.{foundUpTo}
 use Rattle.partition.proofs.SearchLaws.{from-used, found-here, passed, none-left}
-use Rattle.partition.proofs.UsableLaws.{usable-over, count-most}
+use Rattle.partition.proofs.UsableLaws.{usable-has, count-most}
 use borrow.Author.Needs.{needs}
 use Rattle.partition.proofs.blocks.find.Statement.{statement}
 use Rattle.partition.proofs.blocks.find.Tie as tie
@@ -28,7 +28,7 @@ numbered-requires : tie.Need-numbered-requires Inv-loop μ-loop
 numbered-requires c κs =
     let s = c .before .before .before in
     let u = s .pre .0 in
-    (usable-over u, omega (arith, c .before .loop .inv .0, count-most u))
+    (usable-has u, omega (arith, c .before .loop .inv .0, count-most u))
 
 returns : tie.Need-returns Inv-loop μ-loop
 returns c =
@@ -41,7 +41,7 @@ part-from-requires : tie.Need-part-from-requires Inv-loop μ-loop
 part-from-requires c κs =
     let s = c .before .before .before .before .before in
     let u = s .pre .0 in
-    (usable-over u, omega (arith, c .before .before .before .loop .inv .0, c .before .numbered .ensures .below, count-most u))
+    (usable-has u, omega (arith, c .before .before .before .loop .inv .0, c .before .numbered .ensures .below, count-most u))
 
 right-checksum-requires : tie.Need-right-checksum-requires Inv-loop μ-loop
 right-checksum-requires c κs = search needs

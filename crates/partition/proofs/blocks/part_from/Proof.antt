@@ -1,42 +1,31 @@
 -- `blocks::part_from` meets its contract. Assumes nothing.
+use mathlib.Core.Path.{ap, _∙_}
 use native.Mathlib.Omega.{arith}
-use Rattle.bitmap.proofs.BitReads.{over-measured}
-use Rattle.partition.proofs.PartLaws.{part-whole, block-part, part-length}
+use lib.ListN.{length}
+use Rattle.flash_model.proofs.ImageLaws.{block-length}
+use Rattle.measures.proofs.WithinLaws.{Within, within}
+use Rattle.partition.proofs.PartLaws.{block-part}
 use borrow.Author.Needs.{needs}
 use Rattle.partition.proofs.blocks.part_from.Statement.{statement}
 use Rattle.partition.proofs.blocks.part_from.Tie as tie
 
-start-requires : tie.Need-start-requires
-start-requires c κs =
-    let a = c .before in
-    (a .pre .0 .is-legal, omega (arith, a .pre .1, over-measured (a .args .image .now) (a .args .m .size) (a .pre .0) .first-bitmap))
-
-add-end : tie.Need-add-end
-add-end c =
-    let a = c .before .before in
-    let h = part-whole (a .args .image .now) (a .args .m .size) (a .pre .0) (a .args .k) (a .pre .1) in
-    search (needs, h, c .start .ensures)
-
-sub-result : tie.Need-sub-result
-sub-result c = search needs
-
-part-result-start : tie.Need-part-result-start
-part-result-start c = search needs
-
-part-result-end : tie.Need-part-result-end
-part-result-end c =
-    let a = c .before .before in
-    let h = part-whole (a .args .image .now) (a .args .m .size) (a .pre .0) (a .args .k) (a .pre .1) in
-    omega (arith, h, c .start .ensures)
+inside : (a : tie.Start) → Within (a .args .image .now) (a .args .m .size) (a .args .k)
+inside a = within (a .args .k) (a .pre .0) (a .pre .1)
 
 returns : tie.Need-returns
 returns c =
     let a = c .before .before .before in
-    let h = part-whole (a .args .image .now) (a .args .m .size) (a .pre .0) (a .args .k) (a .pre .1) in
     let s = c .before .start in
-    (block-part (a .args .image .now) (s .result) (a .args .k) (s .ensures), part-length (a .args .image .now) (s .result) (omega (arith, h, s .ensures)))
+    let is = block-part (a .args .image .now) (s .result) (a .args .k) (s .ensures) in
+    (is, ap length is ∙ block-length (a .args .image .now) (a .args .k) (omega (arith, inside a .inside)))
 
 pub part-from-spec : {M : Type 1} → statement M
 part-from-spec =
     tie.close
-    (tie.spec start-requires add-end sub-result part-result-start part-result-end returns)
+    (tie.spec
+    (λ c κs. (c .before .pre .0 .is-legal, omega (arith, inside (c .before) .before-bitmap)))
+    (λ c. omega (arith, inside (c .before .before) .small, c .start .ensures))
+    (λ c. search needs)
+    (λ c. search needs)
+    (λ c. omega (arith, inside (c .before .before) .inside, c .start .ensures))
+    returns)

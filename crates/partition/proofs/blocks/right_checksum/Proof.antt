@@ -1,5 +1,5 @@
 -- `blocks::right_checksum` meets its contract. Assumes nothing.
-use Rattle.partition.proofs.PartLaws.{right-front}
+use Rattle.partition.proofs.PartLaws.{right-is}
 use borrow.Author.Needs.{needs}
 use Rattle.partition.proofs.blocks.right_checksum.Statement.{statement}
 use Rattle.partition.proofs.blocks.right_checksum.Tie as tie
@@ -23,7 +23,7 @@ cast-result : tie.Need-cast-result
 cast-result c = search needs
 
 returns : tie.Need-returns
-returns c = right-front (c .before .before .before .before .args .part .now) (c .before .before .word .result) (c .checksum .result) (c .before .before .word .ensures .0) (c .checksum .ensures)
+returns c = right-is (c .before .before .before .before .args .part .now) (c .before .before .word .result) (c .checksum .result) (c .before .before .word .ensures .0) (c .checksum .ensures)
 
 pub right-checksum-spec : {M : Type 1} → statement M
 right-checksum-spec =

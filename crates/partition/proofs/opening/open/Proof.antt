@@ -1,13 +1,12 @@
 -- `opening::open` meets its contract: each `return` is a case of `openingOf`. Assumes nothing.
 use mathlib.Core.Path.{_≡_, sym, _∙_}
-use mathlib.Core.Option.{none, some}
+use mathlib.Core.Option.{some}
 use native.Mathlib.Omega.{arith}
 use Rattle.flash_model.specs.Partition.{lowestFree}
-use Rattle.bitmap.specs.Over.{Over}
-use Rattle.bitmap.specs.Found.{lowestAllocated}
+use Rattle.measures.specs.HasMeasures.{HasMeasures}
 use Rattle.bitmap.proofs.FoundLaws.{found-at, found-nothing}
 use Rattle.partition.specs.Opening.{headerRefusal}
-use Rattle.partition.proofs.OpenLaws.{open-refused, open-over, open-full, free-low, open-gap, open-free}
+use Rattle.partition.proofs.OpenLaws.{open-refused, open-has, open-full, free-low, open-gap, open-free}
 use borrow.Author.Needs.{needs}
 use Rattle.partition.proofs.opening.open.Statement.{statement}
 use Rattle.partition.proofs.opening.open.Tie as tie
@@ -28,10 +27,10 @@ again c = c .before
 passed : (c : tie.Else1) → headerRefusal (start c .args .image .now) (start c .args .partition) ≡ 0
 passed c = sym (c .before .header-refusal .ensures) ∙ c .if1 .left
 
-over : (c : tie.After-of) → Over (start (c .before) .args .image .now) (c .of .result .size)
+over : (c : tie.After-of) → HasMeasures (start (c .before) .args .image .now) (c .of .result .size)
 over c =
     let a = start (c .before) in
-    open-over (a .args .image .now) (a .args .partition) (passed (c .before)) (c .of .result .size) (c .of .ensures)
+    open-has (a .args .image .now) (a .args .partition) (passed (c .before)) (c .of .result .size) (c .of .ensures)
 
 is-free : (c : tie.After-known-told) → lowestFree (start (tested (searched c)) .args .image .now) ≡ some (c .before .free .given .0 .0)
 is-free c = found-at _ _ (sym (searched c .lowest-free .ensures) ∙ c .before .free .given .1)

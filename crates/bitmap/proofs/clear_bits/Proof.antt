@@ -1,10 +1,8 @@
--- `moving::clear_bits` meets its contract. Assumes nothing.
-use mathlib.Core.Path.{sym, _∙_}
-use Rattle.moving.specs.Moving.{IsBlank}
-use Rattle.moving.proofs.BitLaws.{inside, bitmap-part, bits-enough, bits-put}
+-- `bitmap::clear_bits` meets its contract. Assumes nothing.
+use Rattle.bitmap.proofs.FirstBits.{inside, bitmap-part, bits-enough, bits-put}
 use borrow.Author.Needs.{needs}
-use Rattle.moving.proofs.clear_bits.Statement.{statement}
-use Rattle.moving.proofs.clear_bits.Tie as tie
+use Rattle.bitmap.proofs.clear_bits.Statement.{statement}
+use Rattle.bitmap.proofs.clear_bits.Tie as tie
 
 first-bitmap-requires : tie.Need-first-bitmap-requires
 first-bitmap-requires c κs = search needs

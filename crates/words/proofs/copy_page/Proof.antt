@@ -1,10 +1,10 @@
--- `journal::copy_page` meets its contract. Assumes nothing.
+-- `words::copy_page` meets its contract. Assumes nothing.
 use mathlib.Core.Path.{_≡_, _∙_}
 use lib.ListN.{length, replicate}
 use Rattle.words.proofs.PartsLaws.{copied-over}
 use borrow.Author.Needs.{needs}
-use Rattle.journal.proofs.copy_page.Statement.{statement}
-use Rattle.journal.proofs.copy_page.Tie as tie
+use Rattle.words.proofs.copy_page.Statement.{statement}
+use Rattle.words.proofs.copy_page.Tie as tie
 
 slice-aggregate-copy : tie.Need-slice-aggregate-copy
 slice-aggregate-copy c = search needs

@@ -4,17 +4,20 @@ use mathlib.Core.List.{List}
 use native.Mathlib.Omega.{arith}
 use lib.ListN.{length}
 use Rattle.flash_model.specs.Measures.{firstBitmap, capacity}
-use Rattle.bitmap.specs.Over.{Over}
-use Rattle.bitmap.proofs.BitReads.{over-measured}
+use Rattle.flash_model.proofs.MeasureLaws.{Measured, measures-of}
+use Rattle.measures.specs.HasMeasures.{HasMeasures}
+
+pub measured : {image : List ℕ} {size : ℕ} → HasMeasures image size → Measured size
+measured {image} {size} h = measures-of size (h .is-legal)
 
 pub record Within (image : List ℕ) (size k : ℕ) : Type 0 where
   pub before-bitmap : k < firstBitmap size
   pub inside : k * 64 + 64 ≤ length image
   pub small : k < 65536
 
-pub within : {image : List ℕ} {size : ℕ} (k : ℕ) → Over image size → k ≤ capacity size → Within image size k
-within {image} {size} k o h =
-    let m = over-measured image size o in
+pub within : {image : List ℕ} {size : ℕ} (k : ℕ) → HasMeasures image size → k ≤ capacity size → Within image size k
+within k o h =
+    let m = measured o in
     record {
       before-bitmap = omega (arith, m .first-bitmap);
       inside = omega (arith, o .has-size, m .whole);

@@ -1,8 +1,8 @@
--- `moving::clear_first` meets its contract. Assumes nothing.
-use Rattle.moving.proofs.BitLaws.{part-cleared}
+-- `bitmap::clear_first` meets its contract. Assumes nothing.
+use Rattle.bitmap.proofs.FirstBits.{part-cleared}
 use borrow.Author.Needs.{needs}
-use Rattle.moving.proofs.clear_first.Statement.{statement}
-use Rattle.moving.proofs.clear_first.Tie as tie
+use Rattle.bitmap.proofs.clear_first.Statement.{statement}
+use Rattle.bitmap.proofs.clear_first.Tie as tie
 
 sub-fill : tie.Need-sub-fill
 sub-fill c = search needs

@@ -7,7 +7,7 @@ use mathlib.Core.List.{List}
 use lib.ListN.{length}
 use Rattle.flash_model.specs.Measures.{legalSize}
 
--- The measures are of this image, and legal.
-pub record Over (image : List ℕ) (size : ℕ) : Type 0 where
+-- The image has these measures, and they are legal.
+pub record HasMeasures (image : List ℕ) (size : ℕ) : Type 0 where
   pub has-size : length image ≡ size
   pub is-legal : legalSize size ≡ true

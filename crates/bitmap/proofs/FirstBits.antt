@@ -1,28 +1,26 @@
 -- The first bits of a bitmap of FF, cleared by whole bytes and a part of one more. Assumes nothing.
 use Prim.Native.Nat.{ℕ, zero, suc, _+_, _-_, _*_, _/_, _%_, _^_, _≤_, _<_}
 use mathlib.Core.Path.{_≡_, refl, sym, ap, _∙_}
-use mathlib.Core.Bool.{Bool, false, not}
+use mathlib.Core.Bool.{Bool, not}
 use mathlib.Core.List.{List, _++_, append-nil}
 use native.Mathlib.Omega.{arith}
 use native.Mathlib.Decide.{ℕ-discrete, decLe}
 use native.Mathlib.Nat.{div-eq-of-lt, lt-of-lt-of-le}
 use lib.Dec.{eqb, lit<}
-use lib.ListN.{length, getD, take, drop, set, replicate, length-set, length-append, length-take, length-drop, length-replicate, getD-replicate, List·getD-append}
-use lib.Seq.{getD-set-same, getD-set-other, getD-append-add, getD-drop, drop-append-add, drop-length, take-all, ext-getD}
+use lib.ListN.{length, getD, take, drop, set, replicate, length-set, length-append, length-drop, length-replicate, getD-replicate, List·getD-append}
+use lib.Seq.{getD-set-same, getD-set-other, getD-append-add, getD-drop, drop-length, take-all, ext-getD}
 use lib.Pow.{pow-mono}
 use borrow.Author.Tests.{eqb-true, lt-leb, not-false}
 use borrow.Rule.Slice.PartMut.{midOf, postOf, putMid, post-is, mid-len}
-use Rattle.words.specs.Lists.{anyOf, numbersFrom}
 use Rattle.words.proofs.JoinLaws.{none-range}
-use Rattle.words.proofs.ListLaws.{drop-replicate}
 use Rattle.flash_model.specs.Measures.{firstBitmap, capacity}
 use Rattle.flash_model.specs.Bitmap.{bitByte, bitPlace, bitWeight, cleared, firstCleared}
 use Rattle.flash_model.specs.Partition.{bitmapOf}
 use Rattle.flash_model.specs.Update.{beforeBitmap, bitsCleared}
 use Rattle.flash_model.proofs.BitmapLaws.{cleared-byte, cleared-falls, first-length, first-allocated}
-use Rattle.bitmap.specs.Over.{Over}
-use Rattle.bitmap.proofs.BitReads.{over-measured}
-use Rattle.moving.specs.Moving.{IsBlank}
+use Rattle.measures.specs.HasMeasures.{HasMeasures}
+use Rattle.measures.proofs.WithinLaws.{measured}
+use Rattle.bitmap.specs.Blank.{IsBlank}
 
 -- byte i of a bitmap of FF whose first n bits are cleared: all of it, some of its high bits, or none
 abbrev byteLeft : ℕ → ℕ → ℕ
@@ -121,13 +119,13 @@ part-cleared {part} bits n h ff p =
     let q : part ≡ replicate (n / 8) 0 = p ∙ ap (λ (k : ℕ). replicate {A = ℕ} k 0) (mid-len 0 (n / 8) bits (omega arith) ∙ same) in
     rw (q, post-is 0 (n / 8) bits (omega arith)) (first-cleared bits n h ff)
 
-module _ {image : List ℕ} {size first at : ℕ} (o : Over image size) (f : first ≡ firstBitmap size) (s : at ≡ first * 64) where
+module _ {image : List ℕ} {size first at : ℕ} (o : HasMeasures image size) (f : first ≡ firstBitmap size) (s : at ≡ first * 64) where
   e : at ≡ firstBitmap (length image) * 64
   e = rw (o .has-size, ← f, s)
 
   pub inside : at ≤ length image
   inside =
-      let m = over-measured image size o in
+      let m = measured o in
       omega (arith, o .has-size, m .whole, m .first-bitmap)
 
   pub bitmap-part : midOf at (length image - at) image ≡ bitmapOf image
@@ -136,7 +134,7 @@ module _ {image : List ℕ} {size first at : ℕ} (o : Over image size) (f : fir
 
   pub bits-enough : (n : ℕ) → n ≤ capacity size → n < 8 * length (midOf at (length image - at) image)
   bits-enough n h =
-      let m = over-measured image size o in
+      let m = measured o in
       omega (arith, o .has-size, m .whole, m .first-bitmap, m .bits-enough, mid-len at (length image) image (omega arith))
 
   pub bits-put : {part : List ℕ} (n : ℕ) → part ≡ firstCleared (midOf at (length image - at) image) n → putMid at (length image - at) image part ≡ bitsCleared image n
@@ -144,20 +142,3 @@ module _ {image : List ℕ} {size first at : ℕ} (o : Over image size) (f : fir
   bits-put {part} n p =
       rw (post-is at (length image) image inside, drop-length image, append-nil, p, bitmap-part)
       (ap (λ (k : ℕ). take k image ++ firstCleared (bitmapOf image) n) e)
-
--- what is FF from some place on
-blank-behind : (image front : List ℕ) (at r : ℕ) → image ≡ front ++ replicate r 255 → length front ≤ at → IsBlank (drop at image)
-blank-behind image front at r e h =
-    let k : length front + (at - length front) ≡ at = omega arith in
-    let d : drop at image ≡ replicate (r - (at - length front)) 255 =
-    ap (drop at) e ∙ ap (λ (n : ℕ). drop n (front ++ replicate r 255)) (sym k) ∙ drop-append-add front (replicate r 255) (at - length front)
-    ∙ drop-replicate (at - length front) r 255 in
-    d ∙ ap (λ (n : ℕ). replicate n 255) (sym (ap length d ∙ length-replicate {A = ℕ} (r - (at - length front)) 255))
-
-pub blank-bitmap : {image′ : List ℕ} (image : List ℕ) (size next : ℕ) → length image′ ≡ size → next ≤ firstBitmap size
-    → image′ ≡ take (next * 64) image ++ replicate (size - next * 64) 255 → IsBlank (bitmapOf image′)
-unfolding bitmapOf
-blank-bitmap {image′} image size next l h e =
-    let f : firstBitmap (length image′) ≡ firstBitmap size = ap firstBitmap l in
-    let short : length (take (next * 64) image) ≤ firstBitmap (length image′) * 64 = simp length-take (omega arith) in
-    blank-behind image′ (take (next * 64) image) (firstBitmap (length image′) * 64) (size - next * 64) e short
