@@ -3,3 +3,4 @@ pub mod MarkLaws
 pub mod NextLaws
 pub mod ListedLaws
 pub mod HolderLaws
+pub mod LeftLaws

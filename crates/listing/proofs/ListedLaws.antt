@@ -12,8 +12,8 @@ use Rattle.words.specs.Lists.{keep, numbersFrom}
 use Rattle.flash_model.specs.UserBlock.{number}
 use Rattle.flash_model.specs.Partition.{blockAt}
 use Rattle.listing.specs.Listing.{isNew, mark, isKept, keptBlocks}
-use Rattle.listing.specs.Passing.{PassAt, StopsAt, leftAndListed}
-use Rattle.listing.proofs.MarkLaws.{passed-at, passed-kept, entered-at, entered-kept, entered-below}
+use Rattle.listing.specs.Passing.{PassAt, StopsAt, leftAndListed, Entered}
+use Rattle.listing.proofs.MarkLaws.{passed-at, passed-kept, entered-at, entered-marks, entered-kept, entered-below}
 use Rattle.listing.proofs.HolderLaws.{keep-same}
 
 -- ---- one block fewer is left
@@ -53,13 +53,14 @@ module _ {area image : List ℕ} {size end k : ℕ} (low : 1 ≤ k) (f : PassAt 
       )
 
   pub entered-next : {area′ : List ℕ} {r : ℕ} → isNew end part area ≡ true → r ≡ mark part → area′ ≡ set area (number part) r
-      → PassAt area′ image size end (k - 1) × (keptBlocks area image k ≡ keptBlocks area′ image (k - 1) ++ replicate r k)
+      → PassAt area′ image size end (k - 1) × (keptBlocks area image k ≡ keptBlocks area′ image (k - 1) ++ replicate r k) × Entered image area area′
   entered-next e m a =
       let here : isNew end (blockAt image k) area ≡ true = rw (sym p) e in
       rw (a, m, p) (
         entered-at low f here,
         kept-split area (set area (number (blockAt image k)) (mark (blockAt image k))) image k (mark (blockAt image k)) low
             (entered-below low f here) (entered-kept low f here),
+        entered-marks low f here,
       )
 
 -- ---- the count and the list

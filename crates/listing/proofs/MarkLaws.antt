@@ -4,12 +4,14 @@ use mathlib.Core.Path.{_≡_, refl, sym, ap, subst, _∙_}
 use mathlib.Core.Bool.{Bool, true, false, cond, _&&_, and-false, true≢false}
 use mathlib.Core.List.{List}
 use mathlib.Core.Option.{some}
+use mathlib.Core.Logic.{_⊎_, inl, inr}
 use native.Mathlib.Omega.{arith}
 use native.Mathlib.Decide.{ℕ-discrete}
 use lib.Dec.{eqb, ltb}
 use lib.ListN.{length, getD, set, length-set}
 use lib.Seq.{getD-set-same, getD-set-other, set-getD}
 use borrow.Author.Tests.{eq-eqb, ne-eqb, eqb-true, lt-ltb, ltb-true}
+use Rattle.words.specs.Lists.{isSome}
 use Rattle.words.specs.Search.{highest}
 use Rattle.words.proofs.Bools.{and-true-left, and-true-right}
 use Rattle.words.proofs.LoopLaws.{highest-here, highest-next}
@@ -23,7 +25,7 @@ use Rattle.partition.specs.Usable.{Usable}
 use Rattle.partition.specs.declared.opening.Log.{Log}
 use Rattle.partition.proofs.UsableLaws.{usable-has, usable-measured, count-most, holder-some}
 use Rattle.listing.specs.Listing.{isNew, mark, isKept}
-use Rattle.listing.specs.Passing.{heldBy, PassAt}
+use Rattle.listing.specs.Passing.{heldBy, PassAt, Entered}
 
 pub mark-is : (block : List ℕ) (t : Bool) (r : ℕ) → rightChecksum block ≡ t → r ≡ cond t 1 0 → (r ≡ mark block) × (r ≤ 1)
 unfolding mark
@@ -141,6 +143,16 @@ module _ {area image : List ℕ} {size end k : ℕ} (low : 1 ≤ k) (f : PassAt 
         go false wrong =
             subst (λ (a : List ℕ). PassAt a image size end (k - 1)) (same-area wrong)
             (passed (λ n h z. rw wrong (and-false (eqb b n))))
+
+    pub entered-marks : Entered image area (set area b (mark (blockAt image k)))
+    unfolding mark
+    entered-marks = record { each = λ n. go (rightChecksum (blockAt image k)) refl n (ℕ-discrete n b) }
+      where
+        go : (t : Bool) → rightChecksum (blockAt image k) ≡ t → (n : ℕ) → Dec (n ≡ b)
+            → (getD (set area b (cond t 1 0)) n 0 ≡ getD area n 0) ⊎ ((getD area n 0 ≡ 0) × ((getD (set area b (cond t 1 0)) n 0 ≡ 1) × (isSome (holder image n) ≡ true)))
+        go true right n (yes q) = inr (rw q (free, (getD-set-same area b 1 0 (omega (arith, below, f .long)), ap isSome (held-here right))))
+        go false wrong n (yes q) = inl (rw q (getD-set-same area b 0 0 (omega (arith, below, f .long)) ∙ sym free))
+        go t right n (no d) = inl (getD-set-other area b n (cond t 1 0) 0 d)
 
     -- it is kept if its checksum is right
     pub entered-kept : mark (blockAt image k) ≡ cond (isKept area image k) 1 0

@@ -8,13 +8,13 @@ use words::word;
 ghost use mathlib.Core.Path.{_≡_};
 ghost use mathlib.Core.Bool.{true, false};
 ghost use Prim.Native.Nat.{_+_, _-_, _≤_, _<_};
-ghost use lib.ListN.{length, drop, set};
+ghost use lib.ListN.{length, set};
 ghost use Rattle.flash_model.specs.Measures.{capacity};
 ghost use Rattle.flash_model.specs.UserBlock.{number};
 ghost use Rattle.flash_model.specs.Partition.{live, lowestLive};
 ghost use Rattle.partition.specs.Usable.{Usable};
 ghost use Rattle.listing.specs.Listing.{isNew, mark, keptBlocks, lowered, asNext};
-ghost use Rattle.listing.specs.Passing.{PassAt, StopsAt, leftAndListed};
+ghost use Rattle.listing.specs.Passing.{PassAt, StopsAt, leftAndListed, Entered, Grown, AllListed};
 
 // A logical number, or none.
 pub enum Next {
@@ -125,6 +125,7 @@ fn list_run(
     ensures { λ r. ⌜ StopsAt false (now (area .exit)) (now (image .entry)) (m .size) end from (r .at) ⌝ }
     ensures { λ r. ⌜ r .count + r .at ≤ listed + from ⌝ }
     ensures { λ r. ⌜ leftAndListed (now (area .exit)) (now (image .entry)) (r .at) (r .count) (now (kept .exit)) ≡ leftAndListed (now (area .entry)) (now (image .entry)) from listed (now (kept .entry)) ⌝ }
+    ensures { λ r. ⌜ Entered (now (image .entry)) (now (area .entry)) (now (area .exit)) × Grown listed (r .count) (now (kept .entry)) (now (kept .exit)) ⌝ }
 {
     let mut count = listed;
     let mut k = from;
@@ -142,12 +143,11 @@ fn list_run(
 }
 
 // Lists at the end of `kept`, rising, the physical block of the contents of each number that the area has no mark for, and counts
-// these.
+// these. The place in front of the list is written too. Then each number that has contents has a mark.
 pub fn list_kept(image: &[u8], log: Log, area: &mut [u8], kept: &mut [u16]) -> usize
     requires { ⌜ Usable (now image) log ⌝ }
     requires { ⌜ (capacity (log .m .size) ≤ length (now area)) × (capacity (log .m .size) ≤ length (now kept)) ⌝ }
-    ensures { λ r. ⌜ r ≤ log .used ⌝ }
-    ensures { λ r. ⌜ drop (length (now (kept .entry)) - r) (now (kept .exit)) ≡ keptBlocks (now (area .entry)) (now (image .entry)) (log .used) ⌝ }
+    ensures { λ r. ⌜ AllListed (now (image .entry)) (now (area .entry)) (now (kept .entry)) (log .used) (now (area .exit)) (now (kept .exit)) r ⌝ }
 {
     let end = log.m.capacity();
     let mut count: usize = 0;

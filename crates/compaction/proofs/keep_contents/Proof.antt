@@ -17,7 +17,7 @@ use Rattle.compaction.proofs.keep_contents.Tie as tie
 listed : (l : tie.After-list-kept)
     → take (1021 - (1021 - l .list-kept .result)) (drop (1021 - l .list-kept .result) (l .list-kept .last .1 .1 .1 .0))
     ≡ keptBlocks (l .before .before .before .before .before .before .args .area .now) (l .before .before .before .before .before .before .args .image .now) (l .before .before .before .before .before .before .args .log .used)
-listed l = part-is 1021 (1021 - l .list-kept .result) (l .list-kept .last .1 .1 .1 .0) _ (l .list-kept .kept .1 .1 .1 .0) (l .list-kept .ensures .1)
+listed l = part-is 1021 (1021 - l .list-kept .result) (l .list-kept .last .1 .1 .1 .0) _ (l .list-kept .kept .1 .1 .1 .0) (l .list-kept .ensures .listed)
 
 slice-aggregate-list-kept : tie.Need-slice-aggregate-list-kept
 slice-aggregate-list-kept c = search needs
@@ -32,7 +32,7 @@ sub-keep-blocks c =
     let l = c .before .before .before .before in
     let a = l .before .before .before .before .before .before in
     let s = a .args .log .m .size in
-    omega (arith, l .list-kept .ensures .0, count-most (a .pre .0), numbers-enough s (usable-legal (a .pre .0)))
+    omega (arith, l .list-kept .ensures .few, count-most (a .pre .0), numbers-enough s (usable-legal (a .pre .0)))
 
 mul-keep-blocks : tie.Need-mul-keep-blocks
 mul-keep-blocks c = search needs

@@ -6,8 +6,9 @@ use native.Mathlib.Omega.{arith}
 use lib.ListN.{length}
 use Rattle.partition.proofs.UsableLaws.{usable-legal, count-most}
 use Rattle.listing.specs.Listing.{keptBlocks}
-use Rattle.listing.specs.Passing.{PassAt, leftAndListed}
+use Rattle.listing.specs.Passing.{PassAt, leftAndListed, Entered, Grown}
 use Rattle.listing.proofs.MarkLaws.{pass-first}
+use Rattle.listing.proofs.LeftLaws.{entered-none, entered-then, marks-after, grown-none, grown-then}
 use Rattle.listing.proofs.ListedLaws.{listed-first, listed-passed, listed-all, stops-lower}
 use Rattle.listing.proofs.list_kept.Statement.{statement}
 use Rattle.listing.proofs.list_kept.Tie as tie
@@ -15,7 +16,7 @@ use Rattle.listing.proofs.list_kept.Tie as tie
 abbrev Inv-loop : tie.InvT-loop
 Inv-loop image log area₀ kept₀ end count₀ k₀ area kept count k =
     (count + k ≤ log .used) × (length area ≡ length area₀) × (length kept ≡ length kept₀) × PassAt area image (log .m .size) end k
-    × (leftAndListed area image k count kept ≡ keptBlocks area₀ image (log .used))
+    × (leftAndListed area image k count kept ≡ keptBlocks area₀ image (log .used)) × Entered image area₀ area × Grown 0 count kept₀ kept
 
 abbrev μ-loop : tie.MeasureT-loop
 μ-loop image log area₀ kept₀ end count₀ k₀ area kept count k = k
@@ -34,6 +35,8 @@ loop-holds c =
       refl,
       pass-first (a .args .area .now) (c .capacity .result) (a .pre .0) (c .capacity .ensures) (omega (arith, c .capacity .ensures, a .pre .1 .0)),
       listed-first (a .args .area .now) i (a .args .kept .now) (a .args .log .used),
+      entered-none _ _,
+      grown-none _ _,
     )
 
 list-run-requires : tie.Need-list-run-requires Inv-loop μ-loop
@@ -63,7 +66,9 @@ loop-again c =
       r .list-run .kept .1 .1 .1 .1 .0 ∙ v .2,
       s .0 .pass-at,
       listed-passed _ i _ (r .list-run .result .at) (c .pass-known .result) (r .list-run .result .count)
-          {before = leftAndListed (l .loop .area) i (l .loop .k) (l .loop .count) (l .loop .kept)} (s .1) (r .list-run .ensures .1 .1) (v .4),
+          {before = leftAndListed (l .loop .area) i (l .loop .k) (l .loop .count) (l .loop .kept)} (s .1) (r .list-run .ensures .1 .1 .0) (v .4),
+      entered-then (v .5) (r .list-run .ensures .1 .1 .1 .0),
+      grown-then (v .6) (r .list-run .ensures .1 .1 .1 .1) (v .2),
     )
 
 same-length : tie.Need-same-length Inv-loop μ-loop
@@ -77,7 +82,12 @@ returns c =
     let l = c .before in
     let a = l .before .before .before .before .before .args in
     let v = l .loop .inv in
-    (omega (arith, v .0), rw (sym (v .2)) (sym (listed-all (l .loop .area) (a .image .now) (l .loop .kept) (l .loop .k) (l .loop .count) (c .loop-test .left)) ∙ v .4))
+    record {
+      few = omega (arith, v .0);
+      listed = rw (sym (v .2)) (sym (listed-all (l .loop .area) (a .image .now) (l .loop .kept) (l .loop .k) (l .loop .count) (c .loop-test .left)) ∙ v .4);
+      grown = v .6;
+      marks = marks-after (v .5) (v .3) (omega (arith, c .loop-test .left));
+    }
 
 pub list-kept-spec : {M : Type 1} → statement M
 list-kept-spec =

@@ -7,8 +7,9 @@ use native.Mathlib.Omega.{arith}
 use lib.ListN.{length, length-set}
 use borrow.Author.Tests.{not-true, not-false}
 use Rattle.flash_model.proofs.MeasureLaws.{measures-of}
-use Rattle.listing.specs.Passing.{PassAt, StopsAt, leftAndListed}
+use Rattle.listing.specs.Passing.{PassAt, StopsAt, leftAndListed, Entered, Grown}
 use Rattle.listing.proofs.MarkLaws.{new-below}
+use Rattle.listing.proofs.LeftLaws.{entered-none, entered-then, grown-none, grown-stored, grown-then}
 use Rattle.listing.proofs.ListedLaws.{entered-next, entered-listed, stops-here, stops-last}
 use borrow.Author.Needs.{needs}
 use Rattle.listing.proofs.list_run.Statement.{statement}
@@ -17,7 +18,7 @@ use Rattle.listing.proofs.list_run.Tie as tie
 abbrev Inv-loop : tie.InvT-loop
 Inv-loop image m end area₀ kept₀ listed from count₀ k₀ area kept count k =
     (count + k ≤ listed + from) × (k ≤ from) × (length area ≡ length area₀) × (length kept ≡ length kept₀) × PassAt area image (m .size) end k
-    × (leftAndListed area image k count kept ≡ leftAndListed area₀ image from listed kept₀)
+    × (leftAndListed area image k count kept ≡ leftAndListed area₀ image from listed kept₀) × Entered image area₀ area × Grown listed count kept₀ kept
 
 abbrev μ-loop : tie.MeasureT-loop
 μ-loop image m end area₀ kept₀ listed from count₀ k₀ area kept count k = k
@@ -27,7 +28,7 @@ room : (l : tie.At-loop Inv-loop μ-loop) → l .loop .count + l .loop .k ≤ le
 room l = omega (arith, l .loop .inv .0, l .loop .inv .3, l .before .before .before .before .pre .1)
 
 loop-holds : tie.Need-loop-holds Inv-loop μ-loop
-loop-holds c = (omega arith, omega arith, refl, refl, c .before .before .before .pre .0, refl)
+loop-holds c = (omega arith, omega arith, refl, refl, c .before .before .before .pre .0, refl, entered-none _ _, grown-none _ _)
 
 part-from-requires : tie.Need-part-from-requires Inv-loop μ-loop
 part-from-requires c κs =
@@ -51,7 +52,7 @@ returns c =
     let a = l .before .before .before .before .args in
     let v = l .loop .inv in
     let e = sym (n .is-new .ensures) ∙ not-true _ (c .if1 .taken) in
-    (stops-here (v .4) (v .1) (p .part-from .ensures .0) e, (v .0, v .5))
+    (stops-here (v .4) (v .1) (p .part-from .ensures .0) e, (v .0, (v .5, (v .6, v .7))))
 
 enter-requires : tie.Need-enter-requires Inv-loop μ-loop
 enter-requires c κs =
@@ -112,6 +113,8 @@ loop-again c =
       simp length-set (v .3),
       s .0,
       entered-listed (l .loop .area) (e .enter .last .1 .0) (a .image .now) (l .loop .k) (l .loop .count) (e .enter .result) (s .1) (l .loop .kept) low (room l) (e .enter .ensures .0 .1) ∙ v .5,
+      entered-then (v .6) (s .2),
+      grown-then (v .7) (grown-stored (l .loop .count) (e .enter .result) (l .loop .k) (l .loop .kept)) (v .3),
     )
 
 same-length-3 : tie.Need-same-length-3 Inv-loop μ-loop
@@ -127,9 +130,10 @@ returns-2 c =
     let v = l .loop .inv in
     subst (λ (k : ℕ). StopsAt false (l .loop .area) (a .image .now) (a .m .size) (a .end) (a .from) k
     × ((l .loop .count + k ≤ a .listed + a .from)
-    × (leftAndListed (l .loop .area) (a .image .now) k (l .loop .count) (l .loop .kept) ≡ leftAndListed (a .area .now) (a .image .now) (a .from) (a .listed) (a .kept .now))))
+    × ((leftAndListed (l .loop .area) (a .image .now) k (l .loop .count) (l .loop .kept) ≡ leftAndListed (a .area .now) (a .image .now) (a .from) (a .listed) (a .kept .now))
+    × (Entered (a .image .now) (a .area .now) (l .loop .area) × Grown (a .listed) (l .loop .count) (a .kept .now) (l .loop .kept)))))
     (omega arith)
-    (stops-last (v .4) (v .1) (c .loop-test .left), (v .0, v .5))
+    (stops-last (v .4) (v .1) (c .loop-test .left), (v .0, (v .5, (v .6, v .7))))
 
 pub list-run-spec : {M : Type 1} → statement M
 list-run-spec =
