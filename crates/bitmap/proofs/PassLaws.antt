@@ -38,25 +38,23 @@ pub passed-none : (image : List ℕ) (byte from : ℕ) → from ≤ firstBitmap 
 passed-none image byte from h = record { low = omega arith; high = h; alike = λ k a b. absurd (omega arith) }
 
 module _ (image : List ℕ) (size : ℕ) (o : HasMeasures image size) where
-  -- the bytes that have no ignored bit
-  pub whole-bytes : firstBitmap size * 64 + capacity size / 8 ≤ length image
-  whole-bytes =
+  -- the bytes that have a block's bit
+  pub bytes-inside : firstBitmap size * 64 + (capacity size + 7) / 8 ≤ length image
+  bytes-inside =
       let m = measured o in
       omega (arith, o .has-size, m .whole, m .first-bitmap, m .bits-enough)
 
   -- a run from the byte that the bit of `from` begins
   pub run-passed : (byte from at end to : ℕ) → at ≡ end * 64 → end ≡ firstBitmap size → 1 ≤ from → (from - 1) % 8 ≡ 0
-      → Run image byte (at + (from - 1) / 8) (at + (end - 1) / 8) to → Passed image byte from ((to - at) * 8 + 1)
+      → Run image byte (at + (from - 1) / 8) (at + (end + 6) / 8) to
+      → (k : ℕ) → k ≤ end → k ≤ (to - at) * 8 + 1 → from ≤ k → Passed image byte from k
   unfolding bitByte
-  run-passed byte from at end to e f one begins run =
+  run-passed byte from at end to e f one begins run k most reached low =
       let long : end ≡ firstBitmap (length image) = f ∙ ap firstBitmap (sym (o .has-size)) in
-      let some-block : 1 ≤ end = omega (arith, measured o .first-bitmap) in
-      let low = run .low in
-      let high = run .high in
       record {
-        low = omega arith;
+        low = low;
         high = omega arith;
-        alike = λ k l h. byte-at k long ∙ run .alike (at + (k - 1) / 8) (omega arith) (omega arith);
+        alike = λ j l h. byte-at j long ∙ run .alike (at + (j - 1) / 8) (omega arith) (omega arith);
       }
     where
       byte-at : (k : ℕ) → end ≡ firstBitmap (length image) → getD (bitmapOf image) ((k - 1) / 8) 0 ≡ getD image (at + (k - 1) / 8) 0

@@ -61,8 +61,8 @@ pub fn clear_bit(image: &mut [u8], m: Measures, k: usize)
     image[at] = image[at] - (1u8 << bit_place(k));
 }
 
-// If the bit of user block `from` begins a byte, the blocks whose bytes are all `byte` are passed from there on. A byte that has
-// ignored bits is not.
+// If the bit of user block `from` begins a byte, the blocks whose bytes are all `byte` are passed from there on. Ignored bits in
+// the last byte are passed too, but they are no block's.
 fn pass_bytes(image: &[u8], m: Measures, from: usize, byte: u8) -> usize
     requires { ⌜ HasMeasures (now image) (m .size) ⌝ }
     requires { ⌜ (1 ≤ from) × (from ≤ firstBitmap (m .size)) ⌝ }
@@ -73,8 +73,12 @@ fn pass_bytes(image: &[u8], m: Measures, from: usize, byte: u8) -> usize
     }
     let end = m.first_bitmap();
     let at = m.start(end);
-    let i = run_end(image, at + (from - 1) / 8, at + (end - 1) / 8, byte);
-    (i - at) * 8 + 1
+    let i = run_end(image, at + (from - 1) / 8, at + (end + 6) / 8, byte);
+    let to = (i - at) * 8 + 1;
+    if end < to {
+        return end;
+    }
+    to
 }
 
 // The lowest free user block: bytes of 0 have none, and the bits of the first other byte are looked at one by one.
