@@ -33,7 +33,7 @@ measured-of size e =
     record { first-bitmap = omega arith; top-number = omega arith; whole = omega arith; bits-enough = omega arith; two-bytes = omega arith; bounded = c }
 
 -- what a test computes over the whole table of lengths holds of each of them
-pub in-table : (p : ℕ → Bool) (l : List ℕ) → anyOf (λ x. not (p x)) l ≡ false → (size : ℕ) → anyOf (eqb size) l ≡ true → p size ≡ true
+in-table : (p : ℕ → Bool) (l : List ℕ) → anyOf (λ x. not (p x)) l ≡ false → (size : ℕ) → anyOf (eqb size) l ≡ true → p size ≡ true
 in-table p [] e size h = absurd (false≢true h)
 in-table p (x ∷ l) e size h =
     go (in-table p l (or-false-right (not (p x)) (anyOf (λ x. not (p x)) l) e) size) (eqb size x) refl h
@@ -48,6 +48,11 @@ in-table p (x ∷ l) e size h =
 pub measures-of : (size : ℕ) → legalSize size ≡ true → Measured size
 unfolding legalSize sizes fitting
 measures-of size h = measured-of size (in-table fitting sizes refl size h)
+
+-- as many user blocks, and numbers, as the longest partition has
+pub capacity-most : (size : ℕ) → legalSize size ≡ true → capacity size ≤ 1021
+unfolding legalSize sizes capacity firstBitmap blocks bitmapBlocks
+capacity-most size h = leb-true (capacity size) 1021 (in-table (λ s. leb (capacity s) 1021) sizes refl size h)
 
 -- ---- legal numbers are those below the capacity
 

@@ -5,17 +5,17 @@ use mathlib.Core.Bool.{Bool, true, false, not, cond}
 use mathlib.Core.List.{List, [], _∷_, _++_, map}
 use native.Mathlib.Omega.{arith}
 use native.Mathlib.Decide.{decLt}
-use lib.Dec.{eqb, ltb, leb}
+use lib.Dec.{eqb, ltb}
 use lib.ListN.{length, take, length-append}
-use borrow.Author.Tests.{eqb-true, leb-true}
-use Rattle.words.specs.Lists.{keep, concat, anyOf, numbersFrom, isSome}
+use borrow.Author.Tests.{eqb-true}
+use Rattle.words.specs.Lists.{keep, concat, numbersFrom, isSome}
 use Rattle.words.proofs.ListLaws.{All, all-keep, all-range}
 use Rattle.words.proofs.PartsLaws.{numbers-length}
-use Rattle.flash_model.specs.Measures.{sizes, legalSize, blocks, bitmapBlocks, firstBitmap, capacity, logicalNumbers}
+use Rattle.flash_model.specs.Measures.{legalSize, capacity, logicalNumbers}
 use Rattle.words.specs.Words.{sameBytes}
 use Rattle.flash_model.specs.Bitmap.{outOfSequence}
 use Rattle.flash_model.specs.Partition.{row, magic, headerNumber, bitmapOf, refusal, Sound, version, contents, live, used}
-use Rattle.flash_model.proofs.MeasureLaws.{in-table}
+use Rattle.flash_model.proofs.MeasureLaws.{capacity-most}
 use Rattle.flash_model.proofs.MeaningLaws.{meanings}
 use Rattle.flash_model.proofs.CallLaws.{unrefused-sound}
 use Rattle.report_text.specs.Text.{digit, decimal, line, refusedWord, partitionWord, versionWord, userWord, usedWord, liveWord, blockWord, endLine, headLines, blockLines, textFor}
@@ -55,13 +55,6 @@ keep-shorter p (x ∷ l) = go (keep-shorter p l) (p x)
     go : length (keep p l) ≤ length l → (t : Bool) → length (cond t (x ∷ keep p l) (keep p l)) ≤ suc (length l)
     go h true = omega (arith, h)
     go h false = omega (arith, h)
-
-capacity-most : (size : ℕ) → legalSize size ≡ true → capacity size ≤ 1021
-unfolding legalSize sizes capacity firstBitmap blocks bitmapBlocks
-capacity-most size h = leb-true (capacity size) 1021 (in-table (λ s. leb (capacity s) 1021) sizes most size h)
-  where
-    most : anyOf (λ s. not (leb (capacity s) 1021)) (16384 ∷ 32768 ∷ 65536 ∷ []) ≡ false
-    most = refl
 
 module _ (image : List ℕ) (sound : Sound image) where
   small : capacity (length image) ≤ 1021

@@ -4,8 +4,9 @@ use mathlib.Core.Path.{refl, _∙_}
 use native.Mathlib.Omega.{arith}
 use lib.ListN.{length-set}
 use Rattle.flash_model.specs.Measures.{capacity}
+use Rattle.flash_model.proofs.MeasureLaws.{capacity-most}
 use Rattle.partition.proofs.UsableLaws.{usable-legal, usable-has, usable-measured}
-use Rattle.listing.proofs.AreaLaws.{numbers-enough, blankArea, new-area}
+use Rattle.listing.proofs.AreaLaws.{blankArea, new-area}
 use Rattle.compaction.proofs.CompactionLaws.{others-high, compact-is, number-low}
 use borrow.Author.Needs.{needs}
 use Rattle.compaction.proofs.compact.Statement.{statement}
@@ -15,7 +16,7 @@ use Rattle.compaction.proofs.compact.Tie as tie
 inside : (a : tie.Start) → a .args .number < 1021
 inside a =
     let s = a .args .log .m .size in
-    omega (arith, number-low (a .pre .0) (a .args .number) (a .pre .1 .0), numbers-enough s (usable-legal (a .pre .0)))
+    omega (arith, number-low (a .pre .0) (a .args .number) (a .pre .1 .0), capacity-most s (usable-legal (a .pre .0)))
 
 -- there is room for its block
 room : (k : tie.After-keep-contents) → k .keep-contents .result ≤ capacity (k .before .before .before .before .before .args .log .m .size)
@@ -33,7 +34,7 @@ slice-aggregate-keep-contents c = search needs
 keep-contents-requires : tie.Need-keep-contents-requires
 keep-contents-requires c κs =
     let a = c .before .before .before .before in
-    (a .pre .0, simp length-set (numbers-enough (a .args .log .m .size) (usable-legal (a .pre .0))))
+    (a .pre .0, simp length-set (capacity-most (a .args .log .m .size) (usable-legal (a .pre .0))))
 
 put-block-requires : tie.Need-put-block-requires
 put-block-requires c κs =

@@ -1,8 +1,9 @@
 -- `compaction::erase` meets its contract. Assumes nothing.
 use mathlib.Core.Path.{_∙_}
 use native.Mathlib.Omega.{arith}
+use Rattle.flash_model.proofs.MeasureLaws.{capacity-most}
 use Rattle.partition.proofs.UsableLaws.{usable-legal, usable-has}
-use Rattle.listing.proofs.AreaLaws.{numbers-enough, new-area}
+use Rattle.listing.proofs.AreaLaws.{new-area}
 use Rattle.compaction.proofs.CompactionLaws.{erase-low, erase-high, erase-is}
 use borrow.Author.Needs.{needs}
 use Rattle.compaction.proofs.erase.Statement.{statement}
@@ -14,7 +15,7 @@ slice-aggregate-keep-contents c = search needs
 keep-contents-requires : tie.Need-keep-contents-requires
 keep-contents-requires c κs =
     let a = c .before .before .before in
-    (a .pre, numbers-enough (a .args .log .m .size) (usable-legal (a .pre)))
+    (a .pre, capacity-most (a .args .log .m .size) (usable-legal (a .pre)))
 
 finish-requires : tie.Need-finish-requires
 finish-requires c κs =

@@ -4,10 +4,10 @@ use mathlib.Core.Path.{_≡_, sym, subst}
 use mathlib.Core.List.{List}
 use native.Mathlib.Omega.{arith}
 use lib.ListN.{length, take, drop}
+use Rattle.flash_model.proofs.MeasureLaws.{capacity-most}
 use Rattle.listing.specs.Listing.{keptBlocks}
 use Rattle.moving.specs.Moving.{RisingBlocks, AllMoved}
 use Rattle.partition.proofs.UsableLaws.{usable-legal, count-most}
-use Rattle.listing.proofs.AreaLaws.{numbers-enough}
 use Rattle.compaction.proofs.KeptLaws.{kept-rise, part-is}
 use borrow.Author.Needs.{needs}
 use Rattle.compaction.proofs.keep_contents.Statement.{statement}
@@ -25,14 +25,14 @@ slice-aggregate-list-kept c = search needs
 list-kept-requires : tie.Need-list-kept-requires
 list-kept-requires c κs =
     let a = c .before .before .before .before .before in
-    (a .pre .0, (a .pre .1, numbers-enough (a .args .log .m .size) (usable-legal (a .pre .0))))
+    (a .pre .0, (a .pre .1, capacity-most (a .args .log .m .size) (usable-legal (a .pre .0))))
 
 sub-keep-blocks : tie.Need-sub-keep-blocks
 sub-keep-blocks c =
     let l = c .before .before .before .before in
     let a = l .before .before .before .before .before .before in
     let s = a .args .log .m .size in
-    omega (arith, l .list-kept .ensures .few, count-most (a .pre .0), numbers-enough s (usable-legal (a .pre .0)))
+    omega (arith, l .list-kept .ensures .few, count-most (a .pre .0), capacity-most s (usable-legal (a .pre .0)))
 
 mul-keep-blocks : tie.Need-mul-keep-blocks
 mul-keep-blocks c = search needs

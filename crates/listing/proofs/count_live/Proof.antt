@@ -6,10 +6,11 @@ use native.Mathlib.Omega.{arith}
 use native.Mathlib.Nat.{zero-add}
 use lib.ListN.{length}
 use Rattle.flash_model.specs.Partition.{live}
+use Rattle.flash_model.proofs.MeasureLaws.{capacity-most}
 use Rattle.partition.proofs.UsableLaws.{usable-legal, usable-measured, count-most}
 use Rattle.listing.specs.Listing.{keptBlocks}
 use Rattle.listing.specs.Passing.{PassAt}
-use Rattle.listing.proofs.AreaLaws.{numbers-enough, blankArea, new-area}
+use Rattle.listing.proofs.AreaLaws.{blankArea, new-area}
 use Rattle.listing.proofs.MarkLaws.{pass-first}
 use Rattle.listing.proofs.ListedLaws.{none-left, stops-lower}
 use Rattle.listing.proofs.HolderLaws.{kept-live}
@@ -32,7 +33,7 @@ loop-holds : tie.Need-loop-holds Inv-loop μ-loop
 loop-holds c =
     let a = c .before .before in
     let s = a .args .log .m .size in
-    let long : c .capacity .result ≤ length blankArea = omega (arith, c .capacity .ensures, numbers-enough s (usable-legal (a .pre))) in
+    let long : c .capacity .result ≤ length blankArea = omega (arith, c .capacity .ensures, capacity-most s (usable-legal (a .pre))) in
     (omega arith, refl, pass-first blankArea (c .capacity .result) (a .pre) (c .capacity .ensures) long, zero-add _ ∙ kept-live (a .pre) blankArea new-area)
 
 slice-aggregate-count-run : tie.Need-slice-aggregate-count-run Inv-loop μ-loop
