@@ -14,8 +14,8 @@ use Rattle.words.specs.Search.{highest}
 use Rattle.words.proofs.Bools.{and-true-left, and-true-right}
 use Rattle.words.proofs.SearchLaws.{IsHighest, highest-some, highest-is, highest-nothing, highest-same, highest-above, highest-last, lastWith, last-map, last-keep, last-same, in-kept, kept-in}
 use Rattle.flash_model.specs.Measures.{capacity, userBlocks, legalNumber}
-use Rattle.flash_model.specs.UserBlock.{number, payload, rightChecksum}
-use Rattle.flash_model.specs.Partition.{blockAt, allocated, holds, holder, contents}
+use Rattle.flash_model.specs.UserBlock.{number, payload, rightChecksum, isCopy}
+use Rattle.flash_model.specs.Partition.{blockAt, allocated, copyAt, holds, holder, contents}
 use Rattle.flash_model.specs.Update.{isAt, isHolder, holders, otherHolders}
 use Rattle.flash_model.specs.Demands.{HoldsAt, HighestHolds, Rising, HoldersAt}
 use Rattle.flash_model.proofs.MeasureLaws.{legal-le, le-legal}
@@ -106,29 +106,26 @@ module _ (image : List ℕ) (n : ℕ) where
 abbrev pub hasNumber : ℕ → List ℕ → Bool
 hasNumber n b = eqb (number b) n
 
-abbrev pub matches : ℕ → List ℕ → Bool
-matches n b = hasNumber n b && rightChecksum b
-
 -- blocks 1 to u of an image
 abbrev pub log : List ℕ → ℕ → List (List ℕ)
 log image u = map (blockAt image) (numbersFrom 1 u)
 
 module _ (image : List ℕ) (n : ℕ) (u : ℕ) (h : u ≤ capacity (length image)) (b : UpTo (allocated image) (capacity (length image)) u) where
-  highest-used : highest (holds image n) (capacity (length image)) ≡ highest (λ k. matches n (blockAt image k)) u
+  highest-used : highest (holds image n) (capacity (length image)) ≡ highest (copyAt image n) u
   unfolding holds
   highest-used =
       highest-above (holds image n) u (capacity (length image)) h (λ k lo hi. rw (b k (omega arith) hi, lt-leb k u lo))
-      ∙ highest-same (holds image n) (λ k. matches n (blockAt image k)) u (λ k lo hi. rw (b k lo (omega arith), le-leb k u hi))
+      ∙ highest-same (holds image n) (copyAt image n) u (λ k lo hi. rw (b k lo (omega arith), le-leb k u hi))
 
   -- the holder is searched for among the allocated blocks
-  pub holder-used : holder image n ≡ cond (legalNumber (length image) n) (highest (λ k. matches n (blockAt image k)) u) none
+  pub holder-used : holder image n ≡ cond (legalNumber (length image) n) (highest (copyAt image n) u) none
   unfolding holder
   holder-used = ap (λ (o : Option ℕ). cond (legalNumber (length image) n) o none) highest-used
 
-  highest-log : highest (holds image n) (capacity (length image)) ≡ lastWith (λ k. matches n (blockAt image k)) (numbersFrom 1 u)
-  highest-log = highest-used ∙ highest-last (λ k. matches n (blockAt image k)) u
+  highest-log : highest (holds image n) (capacity (length image)) ≡ lastWith (copyAt image n) (numbersFrom 1 u)
+  highest-log = highest-used ∙ highest-last (copyAt image n) u
 
-  pub contents-log : contents image n ≡ cond (legalNumber (length image) n) (Option·map payload (lastWith (matches n) (log image u))) none
+  pub contents-log : contents image n ≡ cond (legalNumber (length image) n) (Option·map payload (lastWith (isCopy n) (log image u))) none
   unfolding contents holder
   contents-log = go (legalNumber (length image) n)
     where
@@ -137,11 +134,11 @@ module _ (image : List ℕ) (n : ℕ) (u : ℕ) (h : u ≤ capacity (length imag
       apart (some k) = refl
 
       go : (t : Bool) → Option·map (λ k. payload (blockAt image k)) (cond t (highest (holds image n) (capacity (length image))) none)
-          ≡ cond t (Option·map payload (lastWith (matches n) (log image u))) none
+          ≡ cond t (Option·map payload (lastWith (isCopy n) (log image u))) none
       go true =
           ap (Option·map (λ k. payload (blockAt image k))) highest-log
-          ∙ apart (lastWith (λ k. matches n (blockAt image k)) (numbersFrom 1 u))
-          ∙ ap (Option·map payload) (sym (last-map (blockAt image) (matches n) (numbersFrom 1 u)))
+          ∙ apart (lastWith (copyAt image n) (numbersFrom 1 u))
+          ∙ ap (Option·map payload) (sym (last-map (blockAt image) (isCopy n) (numbersFrom 1 u)))
       go false = refl
 
 -- ---- the list of holders

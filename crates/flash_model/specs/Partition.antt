@@ -13,7 +13,7 @@ use Rattle.words.specs.Search.{highest, lowest}
 use Rattle.words.specs.Words.{sameBytes}
 use Rattle.flash_model.specs.Measures.{legalSize, firstBitmap, capacity, userBlocks, legalNumber, logicalNumbers}
 use Rattle.flash_model.specs.Bitmap.{allocatedIn, outOfSequence, lowestFreeIn}
-use Rattle.flash_model.specs.UserBlock.{number, payload, rightChecksum}
+use Rattle.flash_model.specs.UserBlock.{payload, isCopy}
 
 -- "Physical block K is the 64 bytes from K*64."
 unfoldable pub blockAt : List ℕ → ℕ → List ℕ
@@ -60,9 +60,13 @@ Sound image = refusal image (headerNumber image) ≡ 0
 
 -- ---- contents
 
+-- Block k has "that number and a right checksum", allocated or not.
+abbrev pub copyAt : List ℕ → ℕ → ℕ → Bool
+copyAt image n k = isCopy n (blockAt image k)
+
 -- User block k is an "allocated user block with that number and a right checksum".
 unfoldable pub holds : List ℕ → ℕ → ℕ → Bool
-holds image n k = allocated image k && (eqb (number (blockAt image k)) n && rightChecksum (blockAt image k))
+holds image n k = allocated image k && copyAt image n k
 
 -- The highest such block. Blocks with "a number above M-2 count for nothing".
 unfoldable pub holder : List ℕ → ℕ → Option ℕ

@@ -12,10 +12,11 @@ use lib.ListN.{length, getD, take, set}
 use lib.Seq.{take-set-le, take-take}
 use borrow.Author.Tests.{ne-eqb, le-ltb}
 use Rattle.words.specs.Lists.{isSome}
-use Rattle.flash_model.specs.Partition.{holder}
+use Rattle.words.specs.Search.{highest}
+use Rattle.flash_model.specs.Partition.{copyAt, holder}
 use Rattle.flash_model.proofs.MeasureLaws.{legal-below}
 use Rattle.measures.proofs.WithinLaws.{measured}
-use Rattle.listing.specs.Passing.{heldBy, PassAt, Entered, Grown, markAfter}
+use Rattle.listing.specs.Passing.{PassAt, Entered, Grown, markAfter}
 
 -- ---- the marks
 
@@ -41,7 +42,7 @@ no-holder {area} {image} {size} {end} {k} f z n free = go (decLe end n)
     go (yes h) = unfold holder in rw (f .has-measures .has-size, legal-below size n (measured (f .has-measures)), sym (f .end-is), le-ltb n end h)
     go (no h) =
         let a : k ≡ 0 = omega arith in
-        f .unmarked n (omega (arith, h)) free ∙ ap (λ (i : ℕ). heldBy image i n) a
+        f .unmarked n (omega (arith, h)) free ∙ ap (highest (copyAt image n)) a
 
 pub marks-after : {area area′ image : List ℕ} {size end k : ℕ} → Entered image area area′ → PassAt area′ image size end k → k ≤ 0
     → (n : ℕ) → getD area′ n 0 ≡ markAfter image area n

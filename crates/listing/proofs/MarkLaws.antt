@@ -17,15 +17,14 @@ use Rattle.words.proofs.Bools.{and-true-left, and-true-right}
 use Rattle.words.proofs.LoopLaws.{highest-here, highest-next}
 use Rattle.flash_model.specs.Measures.{capacity}
 use Rattle.flash_model.specs.UserBlock.{number, rightChecksum}
-use Rattle.flash_model.specs.Partition.{blockAt, holder}
+use Rattle.flash_model.specs.Partition.{blockAt, copyAt, holder}
 use Rattle.flash_model.specs.Update.{isAt, isHolder}
 use Rattle.flash_model.proofs.MeasureLaws.{legal-below, measures-of}
-use Rattle.flash_model.proofs.HolderLaws.{matches}
 use Rattle.partition.specs.Usable.{Usable}
 use Rattle.partition.specs.declared.opening.Log.{Log}
 use Rattle.partition.proofs.UsableLaws.{usable-has, usable-measured, count-most, holder-some}
 use Rattle.listing.specs.Listing.{isNew, mark, isKept}
-use Rattle.listing.specs.Passing.{heldBy, PassAt, Entered}
+use Rattle.listing.specs.Passing.{PassAt, Entered}
 
 pub mark-is : (block : List ℕ) (t : Bool) (r : ℕ) → rightChecksum block ≡ t → r ≡ cond t 1 0 → (r ≡ mark block) × (r ≤ 1)
 unfolding mark
@@ -72,13 +71,13 @@ module _ {area image : List ℕ} {size end k : ℕ} (low : 1 ≤ k) (f : PassAt 
   abbrev b : ℕ
   b = number (blockAt image k)
 
-  held-next : (n : ℕ) → matches n (blockAt image k) ≡ false → heldBy image k n ≡ heldBy image (k - 1) n
-  held-next n m = highest-next (λ j. matches n (blockAt image j)) k low m
+  held-next : (n : ℕ) → copyAt image n k ≡ false → highest (copyAt image n) k ≡ highest (copyAt image n) (k - 1)
+  held-next n m = highest-next (copyAt image n) k low m
 
   -- ---- a block that is not new
 
   -- no number without a mark has the block
-  passed : ((n : ℕ) → n < end → getD area n 0 ≡ 0 → matches n (blockAt image k) ≡ false) → PassAt area image size end (k - 1)
+  passed : ((n : ℕ) → n < end → getD area n 0 ≡ 0 → copyAt image n k ≡ false) → PassAt area image size end (k - 1)
   passed none-new = record {
     has-measures = f .has-measures;
     end-is = f .end-is;
@@ -112,7 +111,7 @@ module _ {area image : List ℕ} {size end k : ℕ} (low : 1 ≤ k) (f : PassAt 
     free = new-free end (blockAt image k) area e
 
     held-here : rightChecksum (blockAt image k) ≡ true → holder image b ≡ some k
-    held-here right = f .unmarked b below free ∙ highest-here (λ j. matches b (blockAt image j)) k low (rw (eq-eqb b b refl, right))
+    held-here right = f .unmarked b below free ∙ highest-here (copyAt image b) k low (rw (eq-eqb b b refl, right))
 
     -- with a wrong checksum nothing is stored
     same-area : rightChecksum (blockAt image k) ≡ false → area ≡ set area b (mark (blockAt image k))
@@ -162,8 +161,8 @@ module _ {area image : List ℕ} {size end k : ℕ} (low : 1 ≤ k) (f : PassAt 
         go : (t : Bool) → rightChecksum (blockAt image k) ≡ t → _≡_ {A = ℕ} (cond t 1 0) (cond (isAt (holder image b) k && true) 1 0)
         go true right = rw (held-here right, eq-eqb k k refl)
         go false wrong =
-            let next : holder image b ≡ heldBy image (k - 1) b = f .unmarked b below free ∙ held-next b (rw wrong (and-false (eqb b b))) in
-            rw (next, not-above (λ j. matches b (blockAt image j)) (k - 1) k (omega arith))
+            let next : holder image b ≡ highest (copyAt image b) (k - 1) = f .unmarked b below free ∙ held-next b (rw wrong (and-false (eqb b b))) in
+            rw (next, not-above (copyAt image b) (k - 1) k (omega arith))
 
     -- and of the blocks below it the same are kept as before
     pub entered-below : (j : ℕ) → j < k → isKept area image j ≡ isKept (set area b (mark (blockAt image k))) image j

@@ -14,9 +14,8 @@ use Rattle.words.proofs.Bools.{or-true-either, or-false-left, or-false-right}
 use Rattle.words.proofs.SearchLaws.{highest-nothing, highest-none}
 use Rattle.flash_model.specs.Measures.{capacity, legalNumber}
 use Rattle.flash_model.specs.UserBlock.{number, payload, rightChecksum}
-use Rattle.flash_model.specs.Partition.{blockAt, contents, lowestLive}
+use Rattle.flash_model.specs.Partition.{blockAt, copyAt, contents, lowestLive}
 use Rattle.flash_model.proofs.MeasureLaws.{legal-below}
-use Rattle.flash_model.proofs.HolderLaws.{matches}
 use Rattle.flash_model.proofs.MeaningLaws.{next-live, live-none}
 use Rattle.partition.specs.Usable.{Usable}
 use Rattle.partition.specs.declared.opening.Log.{Log}
@@ -46,19 +45,19 @@ module _ (start best n : ℕ) (block : List ℕ) (e : number block ≡ n) where
 
 -- ---- all blocks passed so far
 
--- some block below k matches the number
+-- some block below k is a copy of the number's page
 pub record Seen (image : List ℕ) (k n : ℕ) : Type 0 where
   pub at : ℕ
   pub low : 1 ≤ at
   pub below : at < k
-  pub here : matches n (blockAt image at) ≡ true
+  pub here : copyAt image n at ≡ true
 
 -- the best so far, where the blocks below k are passed: the lowest of their numbers from the start on, or the end
 pub record Best (image : List ℕ) (start end k best : ℕ) : Type 0 where
   pub bound : best ≤ end
   pub not-below : best < end → start ≤ best
   pub is-seen : best < end → Seen image k best
-  pub none-lower : (n j : ℕ) → start ≤ n → n < best → 1 ≤ j → j < k → matches n (blockAt image j) ≡ false
+  pub none-lower : (n j : ℕ) → start ≤ n → n < best → 1 ≤ j → j < k → copyAt image n j ≡ false
 
 pub best-first : (image : List ℕ) (start end : ℕ) → Best image start end 1 end
 best-first image start end = record {
@@ -76,7 +75,7 @@ module _ (image : List ℕ) (start end k best : ℕ) (b : Best image start end k
   seen-more n s = record { at = s .at; low = s .low; below = omega (arith, s .below); here = s .here }
 
   -- the block doesn't lower it
-  kept : ((n : ℕ) → start ≤ n → n < best → matches n (blockAt image k) ≡ false) → Best image start end (k + 1) best
+  kept : ((n : ℕ) → start ≤ n → n < best → copyAt image n k ≡ false) → Best image start end (k + 1) best
   kept h = record {
     bound = b .bound;
     not-below = b .not-below;
@@ -84,8 +83,8 @@ module _ (image : List ℕ) (start end k best : ℕ) (b : Best image start end k
     none-lower = λ n j a c d e. go n j a c d e (ℕ-discrete j k);
   }
     where
-      go : (n j : ℕ) → start ≤ n → n < best → 1 ≤ j → j < k + 1 → Dec (j ≡ k) → matches n (blockAt image j) ≡ false
-      go n j a c d e (yes q) = ap (λ (i : ℕ). matches n (blockAt image i)) q ∙ h n a c
+      go : (n j : ℕ) → start ≤ n → n < best → 1 ≤ j → j < k + 1 → Dec (j ≡ k) → copyAt image n j ≡ false
+      go n j a c d e (yes q) = ap (copyAt image n) q ∙ h n a c
       go n j a c d e (no q) = b .none-lower n j a c d (omega (arith, e, q))
 
   -- the block's number is the new best
@@ -97,9 +96,9 @@ module _ (image : List ℕ) (start end k best : ℕ) (b : Best image start end k
     none-lower = λ n j a c d e. go n j a c d e (ℕ-discrete j k);
   }
     where
-      go : (n j : ℕ) → start ≤ n → n < number (blockAt image k) → 1 ≤ j → j < k + 1 → Dec (j ≡ k) → matches n (blockAt image j) ≡ false
+      go : (n j : ℕ) → start ≤ n → n < number (blockAt image k) → 1 ≤ j → j < k + 1 → Dec (j ≡ k) → copyAt image n j ≡ false
       go n j a c d e (yes q) =
-          ap (λ (i : ℕ). matches n (blockAt image i)) q ∙ rw (ne-eqb (number (blockAt image k)) n (λ z. omega (arith, z, c)))
+          ap (copyAt image n) q ∙ rw (ne-eqb (number (blockAt image k)) n (λ z. omega (arith, z, c)))
       go n j a c d e (no q) = b .none-lower n j a (omega (arith, c, l)) d (omega (arith, e, q))
 
   pub best-next : 1 ≤ k → (part : List ℕ) → part ≡ blockAt image k → (best′ : ℕ) → best′ ≡ lowered start part best → Best image start end (k + 1) best′
@@ -121,18 +120,18 @@ module _ {image : List ℕ} {log : Log} (u : Usable image log) (end : ℕ) (e : 
   legal : (n : ℕ) → n < end → legalNumber (log .m .size) n ≡ true
   legal n h = legal-below (log .m .size) n (usable-measured u) ∙ lt-ltb n (capacity (log .m .size)) (omega (arith, h, e))
 
-  -- a number that no used block matches has no contents
-  no-contents : (n : ℕ) → n < end → ((j : ℕ) → 1 ≤ j → j ≤ log .used → matches n (blockAt image j) ≡ false) → contents image n ≡ none
+  -- a number of which no used block is a copy has no contents
+  no-contents : (n : ℕ) → n < end → ((j : ℕ) → 1 ≤ j → j ≤ log .used → copyAt image n j ≡ false) → contents image n ≡ none
   unfolding contents
   no-contents n h none-match =
-      ap (Option·map (λ j. payload (blockAt image j))) (holder-some u n (legal n h) ∙ highest-nothing (λ j. matches n (blockAt image j)) (log .used) none-match)
+      ap (Option·map (λ j. payload (blockAt image j))) (holder-some u n (legal n h) ∙ highest-nothing (copyAt image n) (log .used) none-match)
 
   has-contents : (k n : ℕ) → k ≤ (log .used) + 1 → n < end → Seen image k n → contents image n ≢ none
   unfolding contents
-  has-contents k n f h s e = go (highest (λ j. matches n (blockAt image j)) (log .used)) refl
+  has-contents k n f h s e = go (highest (copyAt image n) (log .used)) refl
     where
-      go : (o : Option ℕ) → highest (λ j. matches n (blockAt image j)) (log .used) ≡ o → ⊥
-      go none q = true≢false (sym (s .here) ∙ highest-none (λ j. matches n (blockAt image j)) (log .used) q (s .at) (s .low) (omega (arith, s .below, f)))
+      go : (o : Option ℕ) → highest (copyAt image n) (log .used) ≡ o → ⊥
+      go none q = true≢false (sym (s .here) ∙ highest-none (copyAt image n) (log .used) q (s .at) (s .low) (omega (arith, s .below, f)))
       go (some j) q =
           let c : contents image n ≡ some (payload (blockAt image j)) = unfold contents in ap (Option·map (λ j. payload (blockAt image j))) (holder-some u n (legal n h) ∙ q) in
           let z : _≡_ {A = ℕ} 0 1 = cc in

@@ -2,23 +2,17 @@
 -- Assumes nothing.
 use Prim.Native.Nat.{ℕ, _-_, _≤_, _<_}
 use mathlib.Core.Path.{_≡_}
-use mathlib.Core.Bool.{Bool, true, cond, _&&_}
+use mathlib.Core.Bool.{Bool, true, cond}
 use mathlib.Core.List.{List, _++_}
-use mathlib.Core.Option.{Option}
 use mathlib.Core.Logic.{_⊎_}
 use lib.Dec.{eqb}
 use lib.ListN.{length, getD, take, drop}
 use Rattle.words.specs.Lists.{isSome}
 use Rattle.words.specs.Search.{highest}
 use Rattle.flash_model.specs.Measures.{capacity}
-use Rattle.flash_model.specs.UserBlock.{number, rightChecksum}
-use Rattle.flash_model.specs.Partition.{blockAt, holder}
+use Rattle.flash_model.specs.Partition.{blockAt, copyAt, holder}
 use Rattle.measures.specs.HasMeasures.{HasMeasures}
 use Rattle.listing.specs.Listing.{isNew, keptBlocks}
-
--- The highest of the blocks 1 to k that has the number and a right checksum.
-abbrev pub heldBy : List ℕ → ℕ → ℕ → Option ℕ
-heldBy image k n = highest (λ j. eqb (number (blockAt image j)) n && rightChecksum (blockAt image j)) k
 
 -- The pass is at block k, and those above are passed: what holds the contents of a number that has no mark is k or below it.
 pub record PassAt (area image : List ℕ) (size end k : ℕ) : Type 0 where
@@ -26,7 +20,7 @@ pub record PassAt (area image : List ℕ) (size end k : ℕ) : Type 0 where
   pub end-is : end ≡ capacity size
   pub long : end ≤ length area
   pub within : k ≤ end
-  pub unmarked : (n : ℕ) → n < end → getD area n 0 ≡ 0 → holder image n ≡ heldBy image k n
+  pub unmarked : (n : ℕ) → n < end → getD area n 0 ≡ 0 → holder image n ≡ highest (copyAt image n) k
 
 -- The pass went down from one block and stopped at another, which is new or is not, or where none was left.
 pub record StopsAt (new : Bool) (area image : List ℕ) (size end from at : ℕ) : Type 0 where

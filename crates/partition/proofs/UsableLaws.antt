@@ -6,10 +6,10 @@ use mathlib.Core.List.{List}
 use native.Mathlib.Omega.{arith}
 use Rattle.words.specs.Search.{highest}
 use Rattle.flash_model.specs.Measures.{legalSize, legalNumber, capacity}
-use Rattle.flash_model.specs.Partition.{blockAt, holder, used}
+use Rattle.flash_model.specs.Partition.{copyAt, holder, used}
 use Rattle.flash_model.proofs.MeasureLaws.{Measured, measures-of}
 use Rattle.flash_model.proofs.SoundLaws.{tests-of, used-most, allocated-used}
-use Rattle.flash_model.proofs.HolderLaws.{matches, holder-used}
+use Rattle.flash_model.proofs.HolderLaws.{holder-used}
 use Rattle.measures.specs.HasMeasures.{HasMeasures}
 use Rattle.partition.specs.Usable.{Usable}
 use Rattle.partition.specs.declared.opening.Log.{Log}
@@ -27,7 +27,7 @@ module _ {image : List ℕ} {log : Log} (u : Usable image log) where
   pub count-most : log .used ≤ capacity (log .m .size)
   count-most = omega (arith, u .used-is, used-most image, ap capacity (u .has-size))
 
-  pub holder-some : (n : ℕ) → legalNumber (log .m .size) n ≡ true → holder image n ≡ highest (λ k. matches n (blockAt image k)) (log .used)
+  pub holder-some : (n : ℕ) → legalNumber (log .m .size) n ≡ true → holder image n ≡ highest (copyAt image n) (log .used)
   holder-some n e =
       holder-used image n (used image) (used-most image) (allocated-used image (u .is-sound))
       ∙ rw (sym (u .used-is), u .has-size, e)

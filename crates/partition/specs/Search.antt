@@ -2,18 +2,18 @@
 -- Assumes nothing.
 use Prim.Native.Nat.{ℕ, _≤_, _<_}
 use mathlib.Core.Path.{_≡_}
-use mathlib.Core.Bool.{true, _&&_}
+use mathlib.Core.Bool.{true}
 use mathlib.Core.List.{List}
 use lib.Dec.{eqb}
 use Rattle.words.specs.Search.{highest}
-use Rattle.flash_model.specs.UserBlock.{number, rightChecksum}
-use Rattle.flash_model.specs.Partition.{blockAt}
+use Rattle.flash_model.specs.UserBlock.{number}
+use Rattle.flash_model.specs.Partition.{blockAt, copyAt}
 use Rattle.bitmap.specs.Found.{asFound}
 use Rattle.bitmap.specs.declared.Found.{Found}
 
 -- The highest of the blocks 1 to k that has the number and a right checksum.
 unfoldable pub foundUpTo : List ℕ → ℕ → ℕ → Found
-foundUpTo image n k = asFound (highest (λ j. eqb (number (blockAt image j)) n && rightChecksum (blockAt image j)) k)
+foundUpTo image n k = asFound (highest (copyAt image n) k)
 
 -- The search down from `top` comes to r, which has the number unless it is 0.
 pub record NextNumbered (image : List ℕ) (n top r : ℕ) : Type 0 where
