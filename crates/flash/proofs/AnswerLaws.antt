@@ -2,7 +2,7 @@
 -- Assumes nothing.
 use Prim.Native.Nat.{ℕ}
 use mathlib.Core.Path.{_≡_, refl, sym, ap, subst, _∙_}
-use mathlib.Core.Bool.{Bool, true, false, cond, false≢true}
+use mathlib.Core.Bool.{Bool, true, false, cond}
 use mathlib.Core.List.{List, [], _∷_}
 use mathlib.Core.Option.{Option, none, some}
 use mathlib.Core.Logic.{_≢_}
@@ -10,19 +10,20 @@ use native.Mathlib.Omega.{arith}
 use native.Mathlib.Decide.{ℕ-discrete}
 use lib.Dec.{eqb}
 use borrow.Author.Tests.{eqb-true, eqb-false, ne-eqb}
-use Rattle.words.specs.Lists.{isSome, toList}
+use Rattle.words.specs.Lists.{toList}
 use Rattle.flash_model.specs.Partition.{refusal, contents, lowestLive}
 use Rattle.flash_model.specs.Update.{saved, erased}
-use Rattle.flash_model.specs.Calls.{Call, codeOf, accepted, valuesOf, buffersOf, filledBuffers, changedImage, replyTo, after, Answered}
+use Rattle.flash_model.specs.Calls.{Call, readRows, saveRows, codeOf, accepted, valuesOf, buffersOf, filledBuffers, changedImage, replyTo, after, Answered}
 use Rattle.flash_model.specs.Calls.{Call.onPage, Call.onWhole, PageCall.read, PageCall.save, WholeCall.check, WholeCall.report, WholeCall.nextLive, WholeCall.erase}
 use Rattle.flash_model.specs.Demands.{namedBy}
-use Rattle.flash_model.proofs.CallLaws.{unrefused-sound, read-rows}
+use Rattle.flash_model.proofs.SoundLaws.{unrefused-sound}
+use Rattle.flash_model.proofs.CodeLaws.{read-rows}
 use Rattle.flash_model.proofs.Demand2Laws.{refused-first}
 use Rattle.partition.specs.Usable.{Usable}
 use Rattle.partition.specs.Opening.{logOf, openingOf}
 use Rattle.partition.specs.declared.opening.Log.{Log}
 use Rattle.partition.specs.declared.opening.Opened.the-variants as opening
-use Rattle.pages.specs.Rows.{readRest, orBuffer, readBuffer, wrongLengths, saveRest}
+use Rattle.pages.specs.Rows.{orBuffer, readBuffer}
 use Rattle.flash.specs.Answers.{numbered, listed, nextAnswer, countsOf, nextOf}
 use Rattle.flash.specs.declared.Counts.{Counts}
 use Rattle.flash.specs.declared.Summary.the-variants as summaries
@@ -100,45 +101,45 @@ module _ (image : List ℕ) (partition : ℕ) (passed : refusal image partition 
       go none q = answer-refused image (onWhole (nextLive partition start)) 7 (rw (passed, q)) (λ z. omega (arith, z))
       go (some n) q = rw (sym (ap toList q)) (answer-done image (onWhole (nextLive partition start)) (rw (passed, q)))
 
-  -- the rest of a read, and its buffer
+  -- a read, and its buffer
   module _ (n : ℕ) (buffer : List ℕ) where
-    read-code : codeOf image (onPage (read partition n buffer)) ≡ readRest image n buffer
-    unfolding codeOf readRest
+    read-code : codeOf image (onPage (read partition n buffer)) ≡ readRows image n buffer
+    unfolding codeOf
     read-code = rw passed
 
-    pub read-done : (code : ℕ) (left : List ℕ) → code ≡ readRest image n buffer → left ≡ readBuffer image n buffer
+    pub read-done : (code : ℕ) (left : List ℕ) → code ≡ readRows image n buffer → left ≡ readBuffer image n buffer
         → Answered image (onPage (read partition n buffer)) image (numbered code (left ∷ []))
     unfolding readBuffer
-    read-done code left e l = go (ℕ-discrete (readRest image n buffer) 0)
+    read-done code left e l = go (ℕ-discrete (readRows image n buffer) 0)
       where
-        filled : (o : Option (List ℕ)) → isSome o ≡ true → orBuffer o buffer ∷ [] ≡ toList o
-        filled none h = absurd (false≢true h)
+        filled : (o : Option (List ℕ)) → o ≢ none → orBuffer o buffer ∷ [] ≡ toList o
+        filled none h = absurd (h refl)
         filled (some page) h = refl
 
-        go : Dec (readRest image n buffer ≡ 0) → Answered image (onPage (read partition n buffer)) image (numbered code (left ∷ []))
+        go : Dec (readRows image n buffer ≡ 0) → Answered image (onPage (read partition n buffer)) image (numbered code (left ∷ []))
         go (yes z) =
             let there = read-rows image partition n buffer (read-code ∙ z) .there in
             let b : left ∷ [] ≡ toList (contents image n) = ap (λ (x : List ℕ). x ∷ []) (l ∙ rw z) ∙ filled (contents image n) there in
             rw (e ∙ z, b) (answer-done image (onPage (read partition n buffer)) (read-code ∙ z))
         go (no h) =
-            let b : left ≡ buffer = l ∙ rw (ne-eqb (readRest image n buffer) 0 h) in
-            rw (b, e) (answer-refused image (onPage (read partition n buffer)) (readRest image n buffer) read-code h)
+            let b : left ≡ buffer = l ∙ rw (ne-eqb (readRows image n buffer) 0 h) in
+            rw (b, e) (answer-refused image (onPage (read partition n buffer)) (readRows image n buffer) read-code h)
 
-  -- the rest of a save, and its image
+  -- a save, and its image
   module _ (n : ℕ) (expected page : List ℕ) where
-    save-code : codeOf image (onPage (save partition n expected page)) ≡ saveRest image n expected page
-    unfolding codeOf saveRest wrongLengths
+    save-code : codeOf image (onPage (save partition n expected page)) ≡ saveRows image n expected page
+    unfolding codeOf
     save-code = rw passed
 
-    pub save-done : (code : ℕ) (image′ : List ℕ) → code ≡ saveRest image n expected page
-        → image′ ≡ cond (eqb (saveRest image n expected page) 0) (saved image n page) image
+    pub save-done : (code : ℕ) (image′ : List ℕ) → code ≡ saveRows image n expected page
+        → image′ ≡ cond (eqb (saveRows image n expected page) 0) (saved image n page) image
         → Answered image (onPage (save partition n expected page)) image′ (numbered code (expected ∷ page ∷ []))
-    save-done code image′ e i = go (ℕ-discrete (saveRest image n expected page) 0)
+    save-done code image′ e i = go (ℕ-discrete (saveRows image n expected page) 0)
       where
-        go : Dec (saveRest image n expected page ≡ 0) → Answered image (onPage (save partition n expected page)) image′ (numbered code (expected ∷ page ∷ []))
+        go : Dec (saveRows image n expected page ≡ 0) → Answered image (onPage (save partition n expected page)) image′ (numbered code (expected ∷ page ∷ []))
         go (yes z) =
             let b : image′ ≡ saved image n page = i ∙ rw z in
             rw (e ∙ z, b) (answer-done image (onPage (save partition n expected page)) (save-code ∙ z))
         go (no h) =
-            let b : image′ ≡ image = i ∙ rw (ne-eqb (saveRest image n expected page) 0 h) in
-            rw (b, e) (answer-refused image (onPage (save partition n expected page)) (saveRest image n expected page) save-code h)
+            let b : image′ ≡ image = i ∙ rw (ne-eqb (saveRows image n expected page) 0 h) in
+            rw (b, e) (answer-refused image (onPage (save partition n expected page)) (saveRows image n expected page) save-code h)

@@ -1,32 +1,33 @@
 -- Demand 2, from the laws of saves and of answered calls. Assumes nothing.
 use Prim.Native.Nat.{ℕ, _≤_}
 use mathlib.Core.Path.{_≡_, refl, sym, ap, subst, _∙_}
-use mathlib.Core.Bool.{true, false, not, true≢false, false≢true}
+use mathlib.Core.Bool.{not}
 use mathlib.Core.List.{List, [], _∷_, _++_}
 use mathlib.Core.Option.{Option, none, some}
 use mathlib.Core.Logic.{_↔_, _≢_, _⊎_, inl, inr}
+use native.Mathlib.Omega.{arith}
 use native.Mathlib.Decide.{ℕ-discrete}
 use lib.ListN.{length}
 use borrow.Author.Tests.{eq-eqb, ne-eqb}
 use Rattle.words.specs.Lists.{isSome, toList}
 use Rattle.flash_model.specs.Measures.{capacity, topNumber}
 use Rattle.flash_model.specs.UserBlock.{newBlock}
-use Rattle.flash_model.specs.Partition.{headerNumber, version, bitmapOf, allocated, row, refusal, Sound, contents, live, used, lowestLive}
+use Rattle.flash_model.specs.Partition.{headerNumber, version, bitmapOf, allocated, row, first, refusal, Sound, contents, live, used, lowestLive}
 use Rattle.flash_model.specs.Update.{appendBlock, appended, holders, otherHolders, compacted, savedAt, saved, erased}
-use Rattle.flash_model.specs.Calls.{Call, Reply, first, codeOf, changedImage, Answered}
+use Rattle.flash_model.specs.Calls.{Call, Reply, codeOf, changedImage, Answered}
 use Rattle.flash_model.specs.Calls.{PageCall.read, PageCall.save, WholeCall.check, WholeCall.report, WholeCall.nextLive, WholeCall.erase, Call.onPage, Call.onWhole}
 use Rattle.flash_model.specs.PageStore.{expectedPage}
 use Rattle.flash_model.specs.Demands.{NextLiveIs, SavedAs, ErasedAs, LowestFreeBlank, AppendedAt, CompactedAs, ProperSave, LengthsTaken, SaveCodes, namedBy, ReadOnly, SaveDone, Demand2}
-use Rattle.flash_model.proofs.MeasureLaws.{legal-le}
+use Rattle.flash_model.proofs.RowLaws.{first-zero, first-refused}
 use Rattle.flash_model.proofs.BitmapLaws.{free-bit}
 use Rattle.flash_model.proofs.BlockLaws.{new-length}
-use Rattle.flash_model.proofs.SoundLaws.{sound-measured, row-passed}
+use Rattle.flash_model.proofs.SoundLaws.{unrefused-sound, sound-measured}
 use Rattle.flash_model.proofs.AppendLaws.{bit-falls, bit-other, appended-block, bytes-below, bytes-above, appended-length}
 use Rattle.flash_model.proofs.CompactLaws.{compacted-as}
 use Rattle.flash_model.proofs.SaveLaws.{append-blank, blank-append, holders-writable, others-writable, erased-keeps, erased-contents, saved-keeps, saved-contents}
-use Rattle.flash_model.proofs.CallLaws.{answered-code, accepted-image, accepted-values, accepted-buffers, refused-image, refused-buffers, refused-values, first-zero, first-refused, unrefused-sound, read-rows, save-rows}
+use Rattle.flash_model.proofs.CallLaws.{answered-code, accepted-image, accepted-values, accepted-buffers, refused-image, refused-buffers, refused-values}
 use Rattle.flash_model.proofs.MeaningLaws.{contents-length, next-live, none-live}
-use Rattle.flash_model.proofs.RowLaws.{read-codes, save-codes}
+use Rattle.flash_model.proofs.CodeLaws.{read-codes, save-codes, read-rows, save-rows}
 
 pub refused-first : (image : List ℕ) (c : Call) → refusal image (namedBy c) ≢ 0 → codeOf image c ≡ refusal image (namedBy c)
 unfolding codeOf
@@ -71,11 +72,11 @@ unfolding codeOf
 next-live-gives image partition start image′ answer a e =
     let c = onWhole (nextLive partition start) in
     let z = first-zero (refusal image partition) (row 7 (not (isSome (lowestLive image start))) 0) (sym (answered-code image c image′ answer a) ∙ e) in
-    go (lowestLive image start) refl (row-passed 6 0 (not (isSome (lowestLive image start))) (z .1)) (accepted-values image c image′ answer a e) (unrefused-sound image partition (z .0))
+    go (lowestLive image start) refl (z .1) (accepted-values image c image′ answer a e) (unrefused-sound image partition (z .0))
   where
-    go : (o : Option ℕ) → lowestLive image start ≡ o → not (isSome o) ≡ false → answer .values ≡ toList (lowestLive image start) → Sound image
+    go : (o : Option ℕ) → lowestLive image start ≡ o → row 7 (not (isSome o)) 0 ≡ 0 → answer .values ≡ toList (lowestLive image start) → Sound image
         → (n : ℕ) × (answer .values ≡ n ∷ []) × NextLiveIs image start n
-    go none q t v s = absurd (true≢false t)
+    go none q t v s = absurd (omega (arith, t))
     go (some n) q t v s = (n, v ∙ ap toList q, next-live image start n s .0 q)
 
 next-live-none : (image : List ℕ) (start : ℕ) → Sound image → codeOf image (onWhole (nextLive (headerNumber image) start)) ≢ 0
@@ -96,9 +97,9 @@ read-gives image partition n buffer image′ answer a e =
     let r = read-rows image partition n buffer (sym (answered-code image c image′ answer a) ∙ e) in
     go (contents image n) refl (r .there) (accepted-buffers image c image′ answer a e) (unrefused-sound image partition (r .unrefused-1-5))
   where
-    go : (o : Option (List ℕ)) → contents image n ≡ o → isSome o ≡ true → answer .buffers ≡ toList (contents image n) → Sound image
+    go : (o : Option (List ℕ)) → contents image n ≡ o → contents image n ≢ none → answer .buffers ≡ toList (contents image n) → Sound image
         → (page : List ℕ) × (answer .buffers ≡ page ∷ []) × (contents image n ≡ some page) × (length page ≡ 60)
-    go none q t b s = absurd (false≢true t)
+    go none q t b s = absurd (t q)
     go (some page) q t b s = (page, b ∙ ap toList q, q, contents-length image s n page q)
 
 -- ---- an accepted save
@@ -114,7 +115,7 @@ module _ (image : List ℕ) (n : ℕ) (page image′ : List ℕ) (done : SaveDon
   is-sound = unrefused-sound image (done .0) (save-rows image (done .0) n (done .1) page no-refusal .unrefused-1-5)
 
   legal : n ≤ topNumber (length image)
-  legal = legal-le (length image) n (save-rows image (done .0) n (done .1) page no-refusal .is-legal)
+  legal = save-rows image (done .0) n (done .1) page no-refusal .in-range
 
   long : length page ≡ 60
   long = save-rows image (done .0) n (done .1) page no-refusal .page-60

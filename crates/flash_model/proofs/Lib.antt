@@ -3,6 +3,8 @@ pub mod BitLaws
 pub mod BitmapLaws
 pub mod BlockLaws
 pub mod SequenceLaws
+pub mod RowLaws
+pub mod RefusalLaws
 pub mod SoundLaws
 pub mod HolderLaws
 pub mod ImageLaws
@@ -11,9 +13,8 @@ pub mod CompactLaws
 pub mod RoomLaws
 pub mod SaveLaws
 pub mod CallLaws
-pub mod RefusalLaws
 pub mod MeaningLaws
-pub mod RowLaws
+pub mod CodeLaws
 pub mod Demand2Laws
 pub mod StoreLaws
 pub mod RunLaws

@@ -22,15 +22,15 @@ use Rattle.flash_model.specs.Update.{isHolder}
 use Rattle.flash_model.specs.Partition.{blockAt, headerNumber, allocated, refusal, Sound, contents, used, lowestLive}
 use Rattle.flash_model.specs.Demands.{NextLiveIs, Meanings}
 use Rattle.flash_model.proofs.BlockLaws.{payload-length}
-use Rattle.flash_model.proofs.SoundLaws.{named, sound-measured, used-most, allocated-used, sound-means}
+use Rattle.flash_model.proofs.SoundLaws.{tests-of, tested-sound, unrefused-sound, sound-measured, used-most, allocated-used}
 use Rattle.flash_model.proofs.HolderLaws.{contents-are, holders-at}
-use Rattle.flash_model.proofs.RefusalLaws.{refusals-mean}
+use Rattle.flash_model.proofs.RefusalLaws.{refusals-mean, unrefused}
 use Rattle.flash_model.proofs.ImageLaws.{block-length}
 use Rattle.flash_model.proofs.RoomLaws.{live-holders}
-use Rattle.flash_model.proofs.CallLaws.{unrefused-sound}
 
 refused-not : (image : List ℕ) (partition : ℕ) → (refusal image partition ≡ 0) ↔ (Sound image × (headerNumber image ≡ partition))
-refused-not image partition = (λ e. (unrefused-sound image partition e, named image partition e), λ s. subst (λ (p : ℕ). refusal image p ≡ 0) (s .1) (s .0))
+refused-not image partition =
+    (λ e. (unrefused-sound image partition e, unrefused image partition e .1), λ s. subst (λ (p : ℕ). refusal image p ≡ 0) (s .1) (s .0))
 
 pub contents-length : (image : List ℕ) → Sound image → (n : ℕ) (page : List ℕ) → contents image n ≡ some page → length page ≡ 60
 contents-length image s n page e =
@@ -121,7 +121,7 @@ next-live image start n s = (found, is)
 pub meanings : Meanings
 meanings = record {
   refusals-mean = refusals-mean;
-  sound-means = sound-means;
+  sound-means = λ image. (tests-of image, tested-sound image);
   refused-not = refused-not;
   contents-are = contents-are;
   page-length = λ image n page s e. contents-length image s n page e;

@@ -1,7 +1,7 @@
 -- Blocks allocated in sequence: exactly the first ones. Assumes nothing.
 use Prim.Native.Nat.{ℕ, zero, suc, _+_, _≤_, _<_}
 use mathlib.Core.Path.{_≡_, refl, sym, ap, subst, _∙_}
-use mathlib.Core.Bool.{Bool, true, false, cond, _||_, true≢false, false≢true}
+use mathlib.Core.Bool.{Bool, true, false, cond, _||_, false≢true}
 use mathlib.Core.List.{_∷_, map}
 use native.Mathlib.Omega.{arith}
 use native.Mathlib.Decide.{ℕ-discrete, decLe}
@@ -119,24 +119,6 @@ up-to-one p n u v a b h l = omega (arith, at-most u v a b h, at-most v u b a l)
 pub passes-below : (p : ℕ → Bool) (n u : ℕ) → UpTo p n u → (j k : ℕ) → 1 ≤ j → j < k → k ≤ n → p k ≡ true → p j ≡ true
 passes-below p n u b j k lo h hi e =
     b j lo (omega arith) ∙ le-leb j u (omega (arith, leb-true k u (sym (b k (omega arith) hi) ∙ e)))
-
--- .. and where that holds no number that passes follows one that doesn't
-pub closed-sequence : (p : ℕ → Bool) (a n : ℕ) → ((j k : ℕ) → a ≤ j → j < k → k < a + n → p k ≡ true → p j ≡ true)
-    → allocatedAfterFree (map p (numbersFrom a n)) ≡ false
-closed-sequence p a zero h = refl
-closed-sequence p a (suc n) h = go (closed-sequence p (suc a) n (λ j k b c d. h j k (omega arith) c (omega arith))) (p a) refl
-  where
-    none-later : p a ≡ false → (k n : ℕ) → a < k → ((i : ℕ) → k ≤ i → i < k + n → p i ≡ true → p a ≡ true) → anyOf (λ t. t) (map p (numbersFrom k n)) ≡ false
-    none-later q k zero b f = refl
-    none-later q k (suc n) b f = step (none-later q (suc k) n (omega arith) (λ i c d. f i (omega arith) (omega arith))) (p k) refl
-      where
-        step : anyOf (λ t. t) (map p (numbersFrom (suc k) n)) ≡ false → (t : Bool) → p k ≡ t → (t || anyOf (λ t. t) (map p (numbersFrom (suc k) n))) ≡ false
-        step ih true e = absurd (true≢false (sym (f k (omega arith) (omega arith) e) ∙ q))
-        step ih false e = ih
-
-    go : allocatedAfterFree (map p (numbersFrom (suc a) n)) ≡ false → (t : Bool) → p a ≡ t → allocatedAfterFree (t ∷ map p (numbersFrom (suc a) n)) ≡ false
-    go ih true e = ih
-    go ih false e = none-later e (suc a) n (omega arith) (λ i b c f. h a i (omega arith) (omega arith) (omega arith) f)
 
 -- ---- out of sequence: a free one, and an allocated one above it
 

@@ -1,7 +1,7 @@
 -- One call against the page store. Assumes nothing.
 use Prim.Native.Nat.{ℕ, zero, suc, _<_}
 use mathlib.Core.Path.{_≡_, refl, sym, ap, _∙_}
-use mathlib.Core.Bool.{Bool, true, false, not, cond, _||_, true≢false, false≢true}
+use mathlib.Core.Bool.{Bool, true, false, not, cond, _||_, true≢false}
 use mathlib.Core.List.{List, [], _∷_}
 use mathlib.Core.Option.{Option, none, some}
 use mathlib.Core.Logic.{_≢_, ite, if-pos, if-neg, Dec·not, Dec·and}
@@ -12,17 +12,19 @@ use lib.ListN.{length}
 use borrow.Author.Tests.{eqb-true, eqb-false, eq-eqb, ne-eqb}
 use Rattle.words.specs.Lists.{isSome, toList}
 use Rattle.flash_model.specs.Measures.{topNumber, legalNumber}
-use Rattle.flash_model.specs.Partition.{row, refusal, headerNumber, Sound, contents}
-use Rattle.flash_model.specs.Calls.{PageCall, Call, Reply, first, differs, changedSince, codeOf, accepted, changedImage, replyTo, after}
+use Rattle.flash_model.specs.Partition.{row, first, refusal, headerNumber, Sound, contents}
+use Rattle.flash_model.specs.Calls.{PageCall, Call, Reply, differs, changedSince, wrongLengths, readRows, saveRows, codeOf, accepted, changedImage, replyTo, after}
 use Rattle.flash_model.specs.Calls.{PageCall.read, PageCall.save, WholeCall.check, WholeCall.report, WholeCall.nextLive, WholeCall.erase, Call.onPage, Call.onWhole}
 use Rattle.flash_model.specs.PageStore.{PageMap, given, expectedPage, samePage, storeCode, readBuffer, storeReply, pagesAfter, storeAfter}
 use Rattle.flash_model.specs.Runs.{onOwned, savesOwned}
 use Rattle.flash_model.specs.Demands.{Keeps}
-use Rattle.flash_model.proofs.MeasureLaws.{legal-le, le-legal, above-illegal}
-use Rattle.flash_model.proofs.SoundLaws.{tests-of, tested-refusal, header-number}
+use Rattle.flash_model.proofs.MeasureLaws.{le-legal, above-illegal}
+use Rattle.flash_model.proofs.RefusalLaws.{tested-refusal}
+use Rattle.flash_model.proofs.SoundLaws.{tests-of, header-number}
 use Rattle.flash_model.proofs.SaveLaws.{erased-keeps, erased-contents, saved-keeps, saved-contents}
-use Rattle.flash_model.proofs.CallLaws.{read-rows, save-rows, same-seen, seen-same}
+use Rattle.flash_model.proofs.CallLaws.{same-seen, seen-same}
 use Rattle.flash_model.proofs.MeaningLaws.{contents-length}
+use Rattle.flash_model.proofs.CodeLaws.{read-rows, save-rows}
 
 -- ---- a row's test and a fact that is decided
 
@@ -93,7 +95,7 @@ module _ (size header : ℕ) (owned : ℕ → Bool) where
     -- ---- the number
 
     code-agrees : (p : PageCall) → onOwned owned p ≡ true → codeOf image (onPage p) ≡ storeCode size header pages p
-    unfolding codeOf changedSince storeCode
+    unfolding codeOf readRows saveRows wrongLengths changedSince storeCode
     code-agrees (read partition n buffer) o =
         front-rows partition n _
         ∙ front-same partition n _ _ (buffer-row (length buffer) _ _
@@ -148,11 +150,11 @@ module _ (size header : ℕ) (owned : ℕ → Bool) where
         (ap (λ (z : ℕ). cond (eqb z 0) (toList (contents image n)) (buffer ∷ [])) (code-agrees (read partition n buffer) o)
         ∙ ap (λ (z : Option (List ℕ)). cond (eqb (storeCode size header pages (read partition n buffer)) 0) (toList z) (buffer ∷ [])) (agree .same-pages n o)
         ∙ read-buffer (storeCode size header pages (read partition n buffer)) (pages n)
-        (λ e. ap isSome (sym (agree .same-pages n o)) ∙ read-rows image partition n buffer (code-agrees (read partition n buffer) o ∙ e) .there))
+        (λ e q. read-rows image partition n buffer (code-agrees (read partition n buffer) o ∙ e) .there (agree .same-pages n o ∙ q)))
       where
-        read-buffer : (answered : ℕ) (o : Option (List ℕ)) → (answered ≡ 0 → isSome o ≡ true)
+        read-buffer : (answered : ℕ) (o : Option (List ℕ)) → (answered ≡ 0 → o ≢ none)
             → cond (eqb answered 0) (toList o) (buffer ∷ []) ≡ readBuffer answered o buffer ∷ []
-        read-buffer zero none h = absurd (false≢true (h refl))
+        read-buffer zero none h = absurd (h refl refl)
         read-buffer zero (some page) h = refl
         read-buffer (suc refused) o h = rw (eqb·suc-zero refused)
     reply-agrees (save partition n expected page) o =
@@ -163,7 +165,7 @@ module _ (size header : ℕ) (owned : ℕ → Bool) where
         same-buffers true = refl
         same-buffers false = refl
 
--- ---- what every call header-keeps
+-- ---- what every call keeps
 
 after-done : (image : List ℕ) (c : Call) → codeOf image c ≡ 0 → after image c ≡ changedImage image c
 unfolding after accepted
@@ -177,7 +179,7 @@ keeps-refl : (image : List ℕ) → Sound image → Keeps image image
 keeps-refl image s = record { still-sound = s; same-length = refl; same-header = refl }
 
 module _ (image : List ℕ) (s : Sound image) where
-  -- of a call: what its image header-keeps, whether it is accepted or not
+  -- of a call: what its image keeps, whether it is accepted or not
   either : (P : List ℕ → Type 0) (c : Call) → P image → (codeOf image c ≡ 0 → P (changedImage image c)) → P (after image c)
   unfolding after accepted
   either P c same done = go (eqb (codeOf image c) 0) refl
@@ -190,7 +192,7 @@ module _ (image : List ℕ) (s : Sound image) where
   changed-keeps (onPage (read partition n buffer)) e = keeps-refl image s
   changed-keeps (onPage (save partition n expected page)) e =
       let r = save-rows image partition n expected page e in
-      saved-keeps image s n page (legal-le (length image) n (r .is-legal)) (r .page-60)
+      saved-keeps image s n page (r .in-range) (r .page-60)
   changed-keeps (onWhole (check partition)) e = keeps-refl image s
   changed-keeps (onWhole (report partition)) e = keeps-refl image s
   changed-keeps (onWhole (nextLive partition start)) e = keeps-refl image s
@@ -205,7 +207,7 @@ module _ (image : List ℕ) (s : Sound image) where
   changed-alone owned (onPage (read partition n buffer)) f m o e = refl
   changed-alone owned (onPage (save partition n expected page)) f m o e =
       let r = save-rows image partition n expected page e in
-      saved-contents image s n page (legal-le (length image) n (r .is-legal)) (r .page-60) m
+      saved-contents image s n page (r .in-range) (r .page-60) m
       ∙ rw (ne-eqb n m (λ d. true≢false (sym o ∙ ap owned (sym d) ∙ f)))
   changed-alone owned (onWhole (check partition)) f m o e = refl
   changed-alone owned (onWhole (report partition)) f m o e = refl
@@ -250,7 +252,7 @@ module _ (size header : ℕ) (owned : ℕ → Bool) (image : List ℕ) (pages : 
       go zero e =
           let r = save-rows image partition n expected page e in
           ap (λ (r : List ℕ). contents r m) (after-done image (onPage p) e)
-          ∙ saved-contents image (agree .is-sound) n page (legal-le (length image) n (r .is-legal)) (r .page-60) m
+          ∙ saved-contents image (agree .is-sound) n page (r .in-range) (r .page-60) m
           ∙ stored (ℕ-discrete m n) (agree .same-pages m om)
       go (suc refused) e = ap (λ (r : List ℕ). contents r m) (after-refused image (onPage p) refused e) ∙ agree .same-pages m om
 

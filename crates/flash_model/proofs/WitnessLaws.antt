@@ -16,22 +16,22 @@ use Rattle.words.proofs.ListLaws.{All, all-map, all-range, drop-replicate, take
 use Rattle.words.proofs.PartsLaws.{numbers-length}
 use Rattle.words.proofs.SearchLaws.{last-map, last-all, range-last}
 use Rattle.flash_model.specs.Measures.{sizes, legalSize, firstBitmap, capacity, topNumber, legalNumber}
-use Rattle.flash_model.specs.Bitmap.{bitByte, allocatedIn, outOfSequence}
+use Rattle.flash_model.specs.Bitmap.{bitByte, allocatedIn}
 use Rattle.flash_model.specs.UserBlock.{number, payload, rightChecksum, newBlock}
 use Rattle.flash_model.specs.Partition.{blockAt, magic, headerNumber, version, bitmapOf, allocated, refusal, Sound, contents, used}
 use Rattle.flash_model.specs.Update.{compacted}
 use Rattle.flash_model.specs.Calls.{Call, replyTo, after}
 use Rattle.flash_model.specs.Runs.{Step, Chain}
-use Rattle.flash_model.specs.Demands.{LowestFreeBlank, Bytes, NotVacuous}
+use Rattle.flash_model.specs.Demands.{SoundMeans, LowestFreeBlank, Bytes, NotVacuous}
 use Rattle.flash_model.proofs.MeasureLaws.{Measured, measures-of, le-legal}
 use Rattle.flash_model.proofs.BitmapLaws.{ff-free}
-use Rattle.flash_model.proofs.SequenceLaws.{UpTo, up-to-sequence}
+use Rattle.flash_model.proofs.SequenceLaws.{UpTo, passes-below}
+use Rattle.flash_model.proofs.RefusalLaws.{tested-refusal}
 use Rattle.flash_model.proofs.BlockLaws.{new-length, new-number, new-payload, new-right}
-use Rattle.flash_model.proofs.SoundLaws.{Tested, tested-refusal, used-most, allocated-used, header-number}
+use Rattle.flash_model.proofs.SoundLaws.{unrefused-sound, used-most, allocated-used, header-number}
 use Rattle.flash_model.proofs.HolderLaws.{hasNumber, contents-log}
 use Rattle.flash_model.proofs.CompactLaws.{compacted-up-to}
 use Rattle.flash_model.proofs.SaveLaws.{Writable, compacted-keeps, compacted-contents}
-use Rattle.flash_model.proofs.CallLaws.{unrefused-sound}
 use Rattle.flash_model.proofs.ByteLaws.{small, bytes-small, bytes-append, bytes-replicate, new-bytes, compacted-bytes}
 
 three-sizes : (size : ℕ) → (legalSize size ≡ true) ↔ ((size ≡ 16384) ⊎ ((size ≡ 32768) ⊎ (size ≡ 65536)))
@@ -93,13 +93,13 @@ module _ (size partition : ℕ) (legal : legalSize size ≡ true) where
   none-up-to : UpTo (allocated formatted) (capacity size) 0
   none-up-to k lo hi = free k lo hi ∙ sym (lt-leb k 0 lo)
 
-  formatted-tested : Tested formatted
-  unfolding formatted head magic version outOfSequence allocated
-  formatted-tested = record {
-    legal = rw formatted-length legal;
-    same-letters = refl;
-    known-version = refl;
-    in-order = rw formatted-length (up-to-sequence (allocatedIn (bitmapOf formatted)) (capacity size) 0 none-up-to);
+  formatted-means : SoundMeans formatted
+  unfolding formatted head magic version
+  formatted-means = record {
+    legal-size = rw formatted-length legal;
+    right-magic = refl;
+    right-version = omega arith;
+    in-sequence = passes-below (allocated formatted) (capacity (length formatted)) 0 (rw formatted-length none-up-to);
   }
 
   formatted-number : headerNumber formatted ≡ partition
@@ -107,7 +107,7 @@ module _ (size partition : ℕ) (legal : legalSize size ≡ true) where
   formatted-number = refl
 
   formatted-refusal : refusal formatted partition ≡ 0
-  formatted-refusal = tested-refusal formatted formatted-tested partition ∙ rw (formatted-number, eq-eqb partition partition refl)
+  formatted-refusal = tested-refusal formatted formatted-means partition ∙ rw (formatted-number, eq-eqb partition partition refl)
 
   formatted-sound : Sound formatted
   formatted-sound = unrefused-sound formatted partition formatted-refusal

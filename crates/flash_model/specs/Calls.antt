@@ -11,7 +11,7 @@ use lib.ListN.{length}
 use Rattle.words.specs.Lists.{isSome, toList}
 use Rattle.words.specs.Words.{sameBytes}
 use Rattle.flash_model.specs.Measures.{capacity, legalNumber}
-use Rattle.flash_model.specs.Partition.{row, refusal, version, contents, live, used, lowestLive}
+use Rattle.flash_model.specs.Partition.{row, first, refusal, version, contents, live, used, lowestLive}
 use Rattle.flash_model.specs.Update.{saved, erased}
 
 -- A call on one page: the partition number named, the logical number, and the buffers. `expected` is what the writer
@@ -39,10 +39,6 @@ pub record Reply : Type 0 where
 
 -- ---- the number
 
--- The first of two numbers that is a refusal.
-abbrev pub first : ℕ → ℕ → ℕ
-first earlier later = cond (eqb earlier 0) later earlier
-
 -- 9: "contents differ from last-seen, or one of them is nothing and the other isn't"
 abbrev pub differs : Option (List ℕ) → List ℕ → Bool
 differs none expected = not (eqb (length expected) 0)
@@ -51,18 +47,28 @@ differs (some page) expected = not (sameBytes page expected)
 unfoldable pub changedSince : List ℕ → ℕ → List ℕ → Bool
 changedSince image n expected = differs (contents image n) expected
 
+-- 8, of a save: "page buffer not 60 bytes, or last-seen neither 0 nor 60"
+unfoldable pub wrongLengths : List ℕ → List ℕ → Bool
+wrongLengths expected page = not (eqb (length page) 60) || not (eqb (length expected) 0 || eqb (length expected) 60)
+
+-- A read, where 1 to 5 don't apply. 6: "logical number above M-2"; 8: "page buffer not 60 bytes"; 7: "nothing there"
+unfoldable pub readRows : List ℕ → ℕ → List ℕ → ℕ
+readRows image n buffer =
+    row 6 (not (legalNumber (length image) n))
+    (row 8 (not (eqb (length buffer) 60))
+    (row 7 (not (isSome (contents image n))) 0))
+
+-- A save, where 1 to 5 don't apply.
+unfoldable pub saveRows : List ℕ → ℕ → List ℕ → List ℕ → ℕ
+saveRows image n expected page =
+    row 6 (not (legalNumber (length image) n))
+    (row 8 (wrongLengths expected page)
+    (row 9 (changedSince image n expected) 0))
+
 -- "1 to 5, then 6, 8, then 7 or 9"
 abbrev pub pageCode : List ℕ → PageCall → ℕ
-pageCode image (read partition n buffer) =
-    first (refusal image partition)
-    (row 6 (not (legalNumber (length image) n))
-    (row 8 (not (eqb (length buffer) 60))
-    (row 7 (not (isSome (contents image n))) 0)))
-pageCode image (save partition n expected page) =
-    first (refusal image partition)
-    (row 6 (not (legalNumber (length image) n))
-    (row 8 (not (eqb (length page) 60) || not (eqb (length expected) 0 || eqb (length expected) 60))
-    (row 9 (changedSince image n expected) 0)))
+pageCode image (read partition n buffer) = first (refusal image partition) (readRows image n buffer)
+pageCode image (save partition n expected page) = first (refusal image partition) (saveRows image n expected page)
 
 -- "Next-live takes any starting number and never gives 6; past the top it gives 7."
 abbrev pub wholeCode : List ℕ → WholeCall → ℕ

@@ -45,14 +45,28 @@ lowestFree image = lowestFreeIn (bitmapOf image) (capacity (length image))
 abbrev pub row : ℕ → Bool → ℕ → ℕ
 row refused test later = cond test refused later
 
+-- The first of two numbers that is a refusal.
+abbrev pub first : ℕ → ℕ → ℕ
+first earlier later = cond (eqb earlier 0) later earlier
+
+-- 1: "image length isn't one of the three"
+unfoldable pub lengthRow : List ℕ → ℕ
+lengthRow image = row 1 (not (legalSize (length image))) 0
+
+-- 2: "the 16 header letters are wrong"; 3: "header number differs from the one named"; 4: "version above 1"
+unfoldable pub headerRows : List ℕ → ℕ → ℕ
+headerRows image partition =
+    row 2 (not (sameBytes (take 16 image) magic))
+    (row 3 (not (eqb (headerNumber image) partition))
+    (row 4 (ltb 1 (version image)) 0))
+
+-- 5: "an allocated user block follows a free one"
+unfoldable pub sequenceRow : List ℕ → ℕ
+sequenceRow image = row 5 (outOfSequence (bitmapOf image) (capacity (length image))) 0
+
 -- The rows 1 to 5, for a call that names this partition number; 0 where none applies.
 unfoldable pub refusal : List ℕ → ℕ → ℕ
-refusal image partition =
-    row 1 (not (legalSize (length image)))
-    (row 2 (not (sameBytes (take 16 image) magic))
-    (row 3 (not (eqb (headerNumber image) partition))
-    (row 4 (ltb 1 (version image))
-    (row 5 (outOfSequence (bitmapOf image) (capacity (length image))) 0))))
+refusal image partition = first (lengthRow image) (first (headerRows image partition) (sequenceRow image))
 
 -- "sound", with 3 judged by the number in the image's own header.
 abbrev pub Sound : List ℕ → Type 0

@@ -10,13 +10,14 @@ use borrow.Author.Tests.{ne-eqb}
 use Rattle.flash_model.specs.Measures.{capacity, legalNumber}
 use Rattle.flash_model.specs.UserBlock.{payload}
 use Rattle.flash_model.specs.Partition.{blockAt, contents, holder}
+use Rattle.flash_model.specs.Calls.{readRows}
 use Rattle.flash_model.proofs.HolderLaws.{holder-held}
 use Rattle.bitmap.specs.Found.{asFound}
 use Rattle.bitmap.specs.declared.Found.the-variants.{At, Nothing}
 use Rattle.bitmap.proofs.FoundLaws.{found-at, found-nothing}
 use Rattle.partition.specs.Usable.{Usable}
 use Rattle.partition.specs.declared.opening.Log.{Log}
-use Rattle.pages.specs.Rows.{readRest, readBuffer}
+use Rattle.pages.specs.Rows.{readBuffer}
 
 -- ---- a number's contents
 
@@ -41,10 +42,10 @@ payload-part part block e = ap (λ (b : List ℕ). take 60 (drop 2 b)) e
 
 module _ {image : List ℕ} {log : Log} (u : Usable image log) (n : ℕ) (buffer : List ℕ) where
   pub record ReadAs (code : ℕ) (left : List ℕ) : Type 0 where
-    pub code-is : code ≡ readRest image n buffer
+    pub code-is : code ≡ readRows image n buffer
     pub buffer-is : left ≡ readBuffer image n buffer
 
-  refused : (c : ℕ) → readRest image n buffer ≡ suc c → ReadAs (suc c) buffer
+  refused : (c : ℕ) → readRows image n buffer ≡ suc c → ReadAs (suc c) buffer
   unfolding readBuffer
   refused c e = record { code-is = sym e; buffer-is = rw (e, ne-eqb (suc c) 0 (λ z. omega (arith, z))) }
 
@@ -52,21 +53,21 @@ module _ {image : List ℕ} {log : Log} (u : Usable image log) (n : ℕ) (buffer
   here b e = ap (λ (s : ℕ). legalNumber s n) (u .has-size) ∙ e
 
   pub read-6 : legalNumber (log .m .size) n ≡ false → ReadAs 6 buffer
-  unfolding readRest
+  unfolding readRows
   read-6 e = refused 5 (rw (here false e))
 
   module _ (legal : legalNumber (log .m .size) n ≡ true) where
     pub read-8 : (length buffer ≡ 60 → ⊥) → ReadAs 8 buffer
-    unfolding readRest
+    unfolding readRows
     read-8 h = refused 7 (rw (here true legal, ne-eqb (length buffer) 60 h))
 
     module _ (l : length buffer ≡ 60) where
       pub read-7 : contents image n ≡ none → ReadAs 7 buffer
-      unfolding readRest
+      unfolding readRows
       read-7 e = refused 6 (rw (here true legal, l, e))
 
       done : (page : List ℕ) → contents image n ≡ some page → ReadAs 0 page
-      unfolding readRest readBuffer
+      unfolding readRows readBuffer
       done page e = record { code-is = rw (here true legal, l, e); buffer-is = rw (here true legal, l, e) }
 
       -- the payload of the block that was found

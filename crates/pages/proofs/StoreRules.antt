@@ -18,7 +18,7 @@ use Rattle.flash_model.specs.Bitmap.{allocatedIn, lowestFreeIn}
 use Rattle.flash_model.specs.UserBlock.{payload, newBlock}
 use Rattle.flash_model.specs.Partition.{blockAt, bitmapOf, row, allocated, lowestFree, holder, contents, used}
 use Rattle.flash_model.specs.Update.{appendBlock, appended, otherHolders, compacted, savedAt, saved}
-use Rattle.flash_model.specs.Calls.{changedSince}
+use Rattle.flash_model.specs.Calls.{changedSince, wrongLengths, saveRows}
 use Rattle.flash_model.proofs.SoundLaws.{allocated-used}
 use Rattle.flash_model.proofs.SaveLaws.{append-blank, blank-used}
 use Rattle.flash_model.proofs.MeaningLaws.{contents-length}
@@ -26,7 +26,7 @@ use Rattle.bitmap.specs.Found.{asFound}
 use Rattle.bitmap.specs.declared.Found.the-variants.{At, Nothing}
 use Rattle.partition.specs.Usable.{Usable}
 use Rattle.partition.specs.declared.opening.Log.{Log}
-use Rattle.pages.specs.Rows.{canAppend, wrongLengths, saveRest}
+use Rattle.pages.specs.Rows.{canAppend}
 use Rattle.pages.proofs.ReadLaws.{contents-at, contents-none}
 
 -- ---- row 8
@@ -141,31 +141,31 @@ module _ {image : List ℕ} {log : Log} (u : Usable image log) where
 
 module _ {image : List ℕ} {log : Log} (u : Usable image log) (n : ℕ) (expected page : List ℕ) where
   pub record SaveAs (code : ℕ) (image′ : List ℕ) : Type 0 where
-    pub code-is : code ≡ saveRest image n expected page
-    pub image-is : image′ ≡ cond (eqb (saveRest image n expected page) 0) (saved image n page) image
+    pub code-is : code ≡ saveRows image n expected page
+    pub image-is : image′ ≡ cond (eqb (saveRows image n expected page) 0) (saved image n page) image
 
-  refused : (c : ℕ) → (c ≡ 0 → ⊥) → c ≡ saveRest image n expected page → SaveAs c image
+  refused : (c : ℕ) → (c ≡ 0 → ⊥) → c ≡ saveRows image n expected page → SaveAs c image
   refused c h e = record { code-is = e; image-is = rw (sym e, ne-eqb c 0 h) }
 
   here : (b : Bool) → legalNumber (log .m .size) n ≡ b → legalNumber (length image) n ≡ b
   here b e = ap (λ (s : ℕ). legalNumber s n) (u .has-size) ∙ e
 
   pub save-6 : legalNumber (log .m .size) n ≡ false → SaveAs 6 image
-  unfolding saveRest
+  unfolding saveRows
   save-6 e = refused 6 (λ z. omega (arith, z)) (rw (here false e))
 
   module _ (legal : legalNumber (log .m .size) n ≡ true) where
     pub save-8 : wrongLengths expected page ≡ true → SaveAs 8 image
-    unfolding saveRest
+    unfolding saveRows
     save-8 e = refused 8 (λ z. omega (arith, z)) (rw (here true legal, e))
 
     module _ (right : wrongLengths expected page ≡ false) where
       pub save-9 : (c : ℕ) → c ≡ row 9 (changedSince image n expected) 0 → (c ≡ 0 → ⊥) → SaveAs c image
-      unfolding saveRest
+      unfolding saveRows
       save-9 c e h = refused c h (rw (here true legal, right) e)
 
       pub save-0 : 0 ≡ row 9 (changedSince image n expected) 0 → (image′ : List ℕ) → image′ ≡ saved image n page → SaveAs 0 image′
-      unfolding saveRest
+      unfolding saveRows
       save-0 e image′ s = record { code-is = rw (here true legal, right) e; image-is = rw (here true legal, right, sym e) s }
 
   -- the page's length, where row 8 doesn't apply

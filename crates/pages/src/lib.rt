@@ -15,14 +15,14 @@ ghost use Rattle.words.specs.Words.{sameBytes};
 ghost use Rattle.flash_model.specs.Measures.{legalNumber, topNumber};
 ghost use Rattle.flash_model.specs.Partition.{row};
 ghost use Rattle.flash_model.specs.Update.{appendBlock, saved};
-ghost use Rattle.flash_model.specs.Calls.{changedSince};
+ghost use Rattle.flash_model.specs.Calls.{changedSince, wrongLengths, readRows, saveRows};
 ghost use Rattle.partition.specs.Usable.{Usable};
-ghost use Rattle.pages.specs.Rows.{readRest, readBuffer, wrongLengths, saveRest, canAppend};
+ghost use Rattle.pages.specs.Rows.{readBuffer, canAppend};
 
 // Reads the contents of a number into the page: refusals 6, 8 and 7, or 0.
 pub fn read_page(image: &[u8], log: Log, number: usize, page: &mut [u8]) -> u8
     requires { ⌜ Usable (now image) log ⌝ }
-    ensures { λ r. ⌜ r ≡ readRest (now (image .entry)) number (now (page .entry)) ⌝ }
+    ensures { λ r. ⌜ r ≡ readRows (now (image .entry)) number (now (page .entry)) ⌝ }
     ensures { λ _. ⌜ now (page .exit) ≡ readBuffer (now (image .entry)) number (now (page .entry)) ⌝ }
 {
     if !log.m.legal_number(number) {
@@ -121,8 +121,8 @@ fn store(image: &mut [u8], log: Log, number: usize, page: &[u8])
 // Saves a page as the contents of a number: refusals 6, 8 and 9, or 0.
 pub fn save_page(image: &mut [u8], log: Log, number: usize, expected: &[u8], page: &[u8]) -> u8
     requires { ⌜ Usable (now image) log ⌝ }
-    ensures { λ r. ⌜ r ≡ saveRest (now (image .entry)) number (now (expected .entry)) (now (page .entry)) ⌝ }
-    ensures { λ _. ⌜ now (image .exit) ≡ cond (eqb (saveRest (now (image .entry)) number (now (expected .entry)) (now (page .entry))) 0) (saved (now (image .entry)) number (now (page .entry))) (now (image .entry)) ⌝ }
+    ensures { λ r. ⌜ r ≡ saveRows (now (image .entry)) number (now (expected .entry)) (now (page .entry)) ⌝ }
+    ensures { λ _. ⌜ now (image .exit) ≡ cond (eqb (saveRows (now (image .entry)) number (now (expected .entry)) (now (page .entry))) 0) (saved (now (image .entry)) number (now (page .entry))) (now (image .entry)) ⌝ }
 {
     if !log.m.legal_number(number) {
         return 6;

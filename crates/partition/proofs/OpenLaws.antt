@@ -1,21 +1,22 @@
 -- How an image is opened: each way out of the function is a case of `openingOf`. Assumes nothing.
 use Prim.Native.Nat.{ℕ, _-_, _≤_}
 use mathlib.Core.Path.{_≡_, refl, sym, ap, _∙_}
-use mathlib.Core.Bool.{Bool, true, false, not, cond, true≢false}
+use mathlib.Core.Bool.{Bool, true, false, not, true≢false}
 use mathlib.Core.List.{List}
 use mathlib.Core.Option.{none, some}
 use native.Mathlib.Omega.{arith}
 use native.Mathlib.Decide.{decLe}
-use lib.Dec.{eqb, ltb, leb}
-use lib.ListN.{length, take}
+use lib.Dec.{leb}
+use lib.ListN.{length}
 use borrow.Author.Tests.{ne-eqb, le-leb, lt-leb, not-true, not-false}
-use Rattle.words.specs.Words.{sameBytes}
 use Rattle.words.proofs.SearchLaws.{IsLowest, lowest-some, lowest-none}
 use Rattle.flash_model.specs.Measures.{legalSize, firstBitmap, capacity}
 use Rattle.flash_model.specs.Bitmap.{outOfSequence, lowestFreeIn}
-use Rattle.flash_model.specs.Partition.{magic, headerNumber, version, bitmapOf, allocated, lowestFree, row, refusal, used}
+use Rattle.flash_model.specs.Partition.{bitmapOf, allocated, lowestFree, lengthRow, headerRows, sequenceRow, refusal, used}
 use Rattle.flash_model.proofs.MeasureLaws.{Measured, measures-of}
 use Rattle.flash_model.proofs.SequenceLaws.{UpTo, up-to-one, passes-below}
+use Rattle.flash_model.proofs.RowLaws.{first-zero, first-refused, first-assoc}
+use Rattle.flash_model.proofs.RefusalLaws.{length-legal}
 use Rattle.flash_model.proofs.SoundLaws.{used-most, order-used, up-to-order}
 use Rattle.measures.specs.HasMeasures.{HasMeasures}
 use Rattle.bitmap.specs.Found.{lowestAllocated}
@@ -24,41 +25,21 @@ use Rattle.partition.specs.Opening.{headerRefusal, logOf, openingOf}
 use Rattle.partition.specs.declared.opening.Opened.the-variants.{Refused, Open}
 
 module _ (image : List ℕ) (partition : ℕ) where
-  rest : ℕ
-  rest = row 5 (outOfSequence (bitmapOf image) (capacity (length image))) 0
-
-  refusal-is : refusal image partition ≡ cond (eqb (headerRefusal image partition) 0) rest (headerRefusal image partition)
-  unfolding refusal headerRefusal rest
-  refusal-is = go (legalSize (length image)) (sameBytes (take 16 image) magic) (eqb (headerNumber image) partition) (ltb 1 (version image))
-    where
-      go : (a b c d : Bool) → row 1 (not a) (row 2 (not b) (row 3 (not c) (row 4 d (row 5 (outOfSequence (bitmapOf image) (capacity (length image))) 0))))
-          ≡ cond (eqb (row 1 (not a) (row 2 (not b) (row 3 (not c) (row 4 d 0)))) 0)
-          (row 5 (outOfSequence (bitmapOf image) (capacity (length image))) 0) (row 1 (not a) (row 2 (not b) (row 3 (not c) (row 4 d 0))))
-      go false b c d = refl
-      go true false c d = refl
-      go true true false d = refl
-      go true true true true = refl
-      go true true true false = refl
-
   pub open-refused : (n : ℕ) → n ≡ headerRefusal image partition → (n ≡ 0 → ⊥) → Refused n ≡ openingOf image partition
-  unfolding openingOf
+  unfolding openingOf refusal headerRefusal
   open-refused n e h =
-      let r : refusal image partition ≡ n = refusal-is ∙ rw (sym e, ne-eqb n 0 h) in
+      let r : refusal image partition ≡ n =
+      first-assoc (lengthRow image) (headerRows image partition) (sequenceRow image) ∙ rw (sym e) (first-refused n (sequenceRow image) h) in
       rw (r, ne-eqb n 0 h)
 
   module _ (passed : headerRefusal image partition ≡ 0) where
-    rest-is : refusal image partition ≡ rest
-    rest-is = refusal-is ∙ rw passed
+    rest-is : refusal image partition ≡ sequenceRow image
+    unfolding refusal headerRefusal
+    rest-is = first-assoc (lengthRow image) (headerRows image partition) (sequenceRow image) ∙ rw passed
 
-    -- refusal 1 doesn't apply
     open-legal : legalSize (length image) ≡ true
     unfolding headerRefusal
-    open-legal = go (legalSize (length image)) refl passed
-      where
-        go : (t : Bool) → legalSize (length image) ≡ t
-            → row 1 (not t) (row 2 (not (sameBytes (take 16 image) magic)) (row 3 (not (eqb (headerNumber image) partition)) (row 4 (ltb 1 (version image)) 0))) ≡ 0 → t ≡ true
-        go true q e = refl
-        go false q e = absurd (omega arith)
+    open-legal = length-legal image (first-zero (lengthRow image) (headerRows image partition) passed .0)
 
     pub open-has : (size : ℕ) → size ≡ length image → HasMeasures image size
     open-has size e = record { has-size = sym e; is-legal = rw e open-legal }
@@ -72,7 +53,7 @@ module _ (image : List ℕ) (partition : ℕ) where
     cap = capacity (length image)
 
     whole : (m : Measures) → m .size ≡ length image → (n : ℕ) → n ≤ cap → UpTo (allocated image) cap n → Open (record { m = m; used = n }) ≡ openingOf image partition
-    unfolding openingOf logOf rest cap
+    unfolding openingOf logOf sequenceRow cap
     whole m s n h b =
         let order = up-to-order image n b in
         let count : used image ≡ n = up-to-one (allocated image) cap (used image) n (order-used image order) b (used-most image) h in
@@ -96,7 +77,7 @@ module _ (image : List ℕ) (partition : ℕ) where
       free-low = free-first .low
 
       pub open-gap : (j : ℕ) → lowestAllocated image k ≡ some j → Refused 5 ≡ openingOf image partition
-      unfolding openingOf rest lowestAllocated cap
+      unfolding openingOf sequenceRow lowestAllocated cap
       open-gap j f = go (outOfSequence (bitmapOf image) (capacity (length image))) refl
         where
           behind : IsLowest (allocated image) k (firstBitmap (length image) - k) j

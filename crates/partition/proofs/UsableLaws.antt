@@ -16,7 +16,7 @@ use Rattle.partition.specs.declared.opening.Log.{Log}
 
 module _ {image : List ℕ} {log : Log} (u : Usable image log) where
   pub usable-legal : legalSize (log .m .size) ≡ true
-  usable-legal = subst (λ (n : ℕ). legalSize n ≡ true) (u .has-size) (tests-of image (u .is-sound) .legal)
+  usable-legal = subst (λ (n : ℕ). legalSize n ≡ true) (u .has-size) (tests-of image (u .is-sound) .legal-size)
 
   pub usable-has : HasMeasures image (log .m .size)
   usable-has = record { has-size = u .has-size; is-legal = usable-legal }

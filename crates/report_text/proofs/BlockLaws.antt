@@ -15,7 +15,8 @@ use Rattle.flash_model.specs.Measures.{capacity, logicalNumbers}
 use Rattle.flash_model.specs.Partition.{refusal, Sound, contents, lowestLive}
 use Rattle.flash_model.specs.Calls.{Call, Answered, codeOf, Call.onWhole, WholeCall.nextLive}
 use Rattle.flash_model.proofs.MeaningLaws.{meanings, next-live, none-live}
-use Rattle.flash_model.proofs.CallLaws.{answered-code, accepted-values, unrefused-sound}
+use Rattle.flash_model.proofs.SoundLaws.{unrefused-sound}
+use Rattle.flash_model.proofs.CallLaws.{answered-code, accepted-values}
 use Rattle.flash_model.proofs.MeasureLaws.{measures-of}
 use Rattle.flash.specs.Answers.{nextAnswer}
 use Rattle.flash.specs.declared.LiveNumber.{LiveNumber}

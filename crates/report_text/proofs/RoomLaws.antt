@@ -1,23 +1,22 @@
 -- The text of a report has room in the buffer. Assumes nothing.
 use Prim.Native.Nat.{ℕ, suc, _+_, _-_, _*_, _/_, _%_, _≤_, _<_}
 use mathlib.Core.Path.{_≡_, refl, ap, _∙_}
-use mathlib.Core.Bool.{Bool, true, false, not, cond}
+use mathlib.Core.Bool.{Bool, true, false, cond}
 use mathlib.Core.List.{List, [], _∷_, _++_, map}
 use native.Mathlib.Omega.{arith}
 use native.Mathlib.Decide.{decLt}
-use lib.Dec.{eqb, ltb}
-use lib.ListN.{length, take, length-append}
+use lib.Dec.{eqb}
+use lib.ListN.{length, length-append}
 use borrow.Author.Tests.{eqb-true}
 use Rattle.words.specs.Lists.{keep, concat, numbersFrom, isSome}
 use Rattle.words.proofs.ListLaws.{All, all-keep, all-range}
 use Rattle.words.proofs.PartsLaws.{numbers-length}
-use Rattle.flash_model.specs.Measures.{legalSize, capacity, logicalNumbers}
-use Rattle.words.specs.Words.{sameBytes}
-use Rattle.flash_model.specs.Bitmap.{outOfSequence}
-use Rattle.flash_model.specs.Partition.{row, magic, headerNumber, bitmapOf, refusal, Sound, version, contents, live, used}
+use Rattle.flash_model.specs.Measures.{capacity, logicalNumbers}
+use Rattle.flash_model.specs.Partition.{refusal, Sound, version, contents, live, used}
 use Rattle.flash_model.proofs.MeasureLaws.{capacity-most}
+use Rattle.flash_model.proofs.RefusalLaws.{refusal-most}
 use Rattle.flash_model.proofs.MeaningLaws.{meanings}
-use Rattle.flash_model.proofs.CallLaws.{unrefused-sound}
+use Rattle.flash_model.proofs.SoundLaws.{unrefused-sound}
 use Rattle.report_text.specs.Text.{digit, decimal, line, refusedWord, partitionWord, versionWord, userWord, usedWord, liveWord, blockWord, endLine, headLines, blockLines, textFor}
 use Rattle.report_text.proofs.DecimalLaws.{decimal-digit, decimal-step}
 
@@ -99,24 +98,6 @@ module _ (image : List ℕ) (sound : Sound image) where
 
 -- ---- the whole text
 
-rows-short : (a b c d e : Bool) → row 1 a (row 2 b (row 3 c (row 4 d (row 5 e 0)))) < 10000
-rows-short true b c d e = omega arith
-rows-short false true c d e = omega arith
-rows-short false false true d e = omega arith
-rows-short false false false true e = omega arith
-rows-short false false false false true = omega arith
-rows-short false false false false false = omega arith
-
-refusal-short : (image : List ℕ) (partition : ℕ) → refusal image partition < 10000
-unfolding refusal
-refusal-short image partition =
-    rows-short
-    (not (legalSize (length image)))
-    (not (sameBytes (take 16 image) magic))
-    (not (eqb (headerNumber image) partition))
-    (ltb 1 (version image))
-    (outOfSequence (bitmapOf image) (capacity (length image)))
-
 pub text-short : (image : List ℕ) (partition : ℕ) → partition < 10000 → length (textFor image partition) ≤ 12288
 unfolding textFor
 text-short image partition h = go (eqb (refusal image partition) 0) refl
@@ -126,4 +107,4 @@ text-short image partition h = go (eqb (refusal image partition) 0) refl
         let s = unrefused-sound image partition (eqb-true (refusal image partition) 0 q) in
         let head = headLines partition (version image) (capacity (length image)) (used image) (live image) in
         omega (arith, head-short image s partition h, blocks-short image s, length-append head (blockLines image ++ endLine), length-append (blockLines image) endLine)
-    go false q = omega (arith, line-short refusedWord (refusal image partition) (refusal-short image partition))
+    go false q = omega (arith, line-short refusedWord (refusal image partition) (omega (arith, refusal-most image partition)))

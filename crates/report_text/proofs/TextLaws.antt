@@ -9,7 +9,7 @@ use lib.Dec.{eqb}
 use lib.ListN.{length, getD, drop}
 use borrow.Author.Tests.{ne-eqb}
 use Rattle.flash_model.specs.Measures.{sizes, legalSize, capacity}
-use Rattle.flash_model.specs.Partition.{refusal, version, live, used}
+use Rattle.flash_model.specs.Partition.{lengthRow, refusal, version, live, used}
 use Rattle.flash_model.specs.Calls.{Call, Answered, codeOf, Call.onWhole, WholeCall.report}
 use Rattle.flash_model.proofs.CallLaws.{answered-code, accepted-values}
 use Rattle.flash.specs.Answers.{listed}
@@ -106,7 +106,7 @@ report-written image rest left w = from-start (reportText image) (left-last rest
 -- ---- longer than every partition
 
 pub long-text : (image : List ℕ) → 65536 < length image → reportText image ≡ line refusedWord 1
-unfolding reportText textFor refusal legalSize sizes
+unfolding reportText textFor refusal lengthRow legalSize sizes
 long-text image h =
     rw (ne-eqb (length image) 16384 (λ e. omega (arith, e, h)), ne-eqb (length image) 32768 (λ e. omega (arith, e, h)), ne-eqb (length image) 65536 (λ e. omega (arith, e, h))) refl
 

@@ -5,7 +5,7 @@ use mathlib.Core.Path.{_≡_, refl}
 use mathlib.Core.List.{List, [], _∷_, _++_, map}
 use Rattle.words.specs.Lists.{concat}
 use Rattle.flash_model.specs.Measures.{sizes, legalSize}
-use Rattle.flash_model.specs.Partition.{refusal}
+use Rattle.flash_model.specs.Partition.{lengthRow, refusal}
 use Rattle.report_text.specs.Text.{decimal, line, blockWord, endLine, partitionFor, headLines, textFor, reportText}
 
 -- "For partition 3, version 1, empty but for block 24 saved twice with different pages, the whole output is these lines"
@@ -32,7 +32,7 @@ sample-report = refl
 
 -- No bytes at all: refused 1.
 no-input : reportText [] ≡ 114 ∷ 101 ∷ 102 ∷ 117 ∷ 115 ∷ 101 ∷ 100 ∷ 32 ∷ 49 ∷ 10 ∷ []
-unfolding reportText textFor partitionFor refusal legalSize sizes line decimal
+unfolding reportText textFor partitionFor refusal lengthRow legalSize sizes line decimal
 no-input = refl
 
 -- 0, 9, 10, 99, 100 and 1020

@@ -11,7 +11,8 @@ use Rattle.checksum.specs.Crc.{shift, shifts, takes, crcFrom, checksumOf}
 use Rattle.flash_model.specs.Measures.{sizes, legalSize, blocks, bitmapBlocks, firstBitmap, capacity, topNumber}
 use Rattle.flash_model.specs.Bitmap.{bitByte, bitPlace, bitWeight, bitOf, allocatedIn, outOfSequence, lowestFreeIn, cleared, firstCleared}
 use Rattle.flash_model.specs.UserBlock.{number, payload, rightChecksum, newBlock}
-use Rattle.flash_model.specs.Partition.{magic, headerNumber, version, bitmapOf, refusal}
+use Rattle.flash_model.specs.Partition.{magic, headerNumber, version, bitmapOf, headerRows, sequenceRow, refusal}
+use Rattle.flash_model.specs.Partition as flash
 use Rattle.card_model.specs.Layout.{cardLength, blockAt, rootOf, fatPlace, tableOf, entryBlock, entryByte, entryPlace, directoryOf}
 use Rattle.card_model.specs.Table.{magicRow, rightFields, fieldsRow, fatEntry, linkOf, linkAt, systemEntry, wrongSystem}
 use Rattle.card_model.specs.Table.{wrongHidden, wrongUser, systemRow, hiddenRow, userRow}
@@ -77,7 +78,8 @@ samples = flashSamples ++ cardSamples
 pub samples-hold : map (λ (s : Sample). s .defined) samples ≡ map (λ (s : Sample). s .bench) samples
 unfolding samples flashSamples unwritten page292 block292 checksumOf crcFrom takes shifts shift sizes legalSize blocks
     bitmapBlocks firstBitmap capacity topNumber bitByte bitPlace bitWeight bitOf allocatedIn outOfSequence lowestFreeIn
-    cleared firstCleared number payload rightChecksum newBlock word wordBytes magic headerNumber version bitmapOf refusal
+    cleared firstCleared number payload rightChecksum newBlock word wordBytes magic headerNumber version bitmapOf
+    flash.lengthRow headerRows sequenceRow refusal
     cardLength blockAt rootOf fatPlace tableOf entryBlock entryByte entryPlace directoryOf magicRow rightFields fieldsRow fatEntry
     linkOf linkAt systemEntry wrongSystem wrongHidden wrongUser systemRow hiddenRow userRow kind flag firstBlock nameOf
     timeOf size headerOffset isUsed isData isGame wrongKind wrongFlag wrongFirst wrongSize wrongOffset wrongEntry entryAt

@@ -1,0 +1,161 @@
+-- The later rows of a read and of a save, each in its turn, in plain logic. Assumes nothing.
+use Prim.Native.Nat.{ℕ, _≤_, _<_}
+use mathlib.Core.Path.{_≡_, refl, sym, ap, subst, _∙_}
+use mathlib.Core.Bool.{Bool, true, false, not, cond, _||_, true≢false}
+use mathlib.Core.List.{List}
+use mathlib.Core.Option.{Option, none, some}
+use mathlib.Core.Logic.{_≢_, _⊎_, inl, inr, ⊎-elim}
+use native.Mathlib.Omega.{arith}
+use lib.Dec.{eqb}
+use lib.ListN.{length}
+use borrow.Author.Tests.{eqb-true, eqb-false, not-true, not-false}
+use Rattle.words.specs.Lists.{isSome}
+use Rattle.words.proofs.Bools.{or-false-left, or-false-right, or-true-either}
+use Rattle.flash_model.specs.Measures.{topNumber, legalNumber}
+use Rattle.flash_model.specs.Partition.{refusal, contents}
+use Rattle.flash_model.specs.Calls.{changedSince, wrongLengths, readRows, saveRows, codeOf}
+use Rattle.flash_model.specs.Calls.{PageCall.read, PageCall.save, Call.onPage}
+use Rattle.flash_model.specs.PageStore.{expectedPage}
+use Rattle.flash_model.specs.Demands.{ReadCodes, LengthsRefused, LengthsTaken, SaveCodes}
+use Rattle.flash_model.proofs.MeasureLaws.{legal-le, illegal-above}
+use Rattle.flash_model.proofs.RowLaws.{Says, by-test, is-wrong, is-right, says-other, first-zero}
+use Rattle.flash_model.proofs.SoundLaws.{unrefused-sound}
+use Rattle.flash_model.proofs.CallLaws.{same-seen, seen-same}
+use Rattle.flash_model.proofs.MeaningLaws.{contents-length}
+
+-- ---- what each test says
+
+says-7 : (o : Option (List ℕ)) → Says (not (isSome o)) (o ≡ none) (o ≢ none)
+says-7 none = record { applies = λ e. refl; passes = λ e. absurd (true≢false e); apart = λ e d. d e }
+says-7 (some page) = record { applies = λ e. absurd (true≢false (sym e)); passes = λ e d. true≢false (ap isSome d); apart = λ e d. d e }
+
+says-lengths : (expected page : List ℕ) → Says (wrongLengths expected page) (LengthsRefused expected page) (LengthsTaken expected page)
+unfolding wrongLengths
+says-lengths expected page = record {
+  applies = λ e. ⊎-elim (λ t. inl (says-other (length page) 60 .applies t)) (λ t. inr (neither (not-true seen t))) (or-true-either new (not seen) e);
+  passes = λ e. (says-other (length page) 60 .passes (or-false-left new (not seen) e), one-of (not-false seen (or-false-right new (not seen) e)));
+  apart = λ w r. ⊎-elim (λ d. d (r .0)) (λ d. ⊎-elim (d .0) (d .1) (r .1)) w;
+}
+  where
+    new : Bool
+    new = not (eqb (length page) 60)
+
+    seen : Bool
+    seen = eqb (length expected) 0 || eqb (length expected) 60
+
+    neither : seen ≡ false → (length expected ≢ 0) × (length expected ≢ 60)
+    neither e = (eqb-false _ 0 (or-false-left _ _ e), eqb-false _ 60 (or-false-right (eqb (length expected) 0) _ e))
+
+    one-of : seen ≡ true → (length expected ≡ 0) ⊎ (length expected ≡ 60)
+    one-of e = ⊎-elim (λ t. inl (eqb-true _ 0 t)) (λ t. inr (eqb-true _ 60 t)) (or-true-either (eqb (length expected) 0) _ e)
+
+module _ (image : List ℕ) (n : ℕ) where
+  says-6 : Says (not (legalNumber (length image) n)) (topNumber (length image) < n) (n ≤ topNumber (length image))
+  says-6 = record {
+    applies = λ e. illegal-above (length image) n (not-true (legalNumber (length image) n) e);
+    passes = λ e. legal-le (length image) n (not-false (legalNumber (length image) n) e);
+    apart = λ h l. omega (arith, h, l);
+  }
+
+  says-9 : (partition : ℕ) (expected : List ℕ) → refusal image partition ≡ 0
+      → Says (changedSince image n expected) (expectedPage expected ≢ contents image n) (expectedPage expected ≡ contents image n)
+  unfolding changedSince
+  says-9 partition expected s = record {
+    applies = λ e q. true≢false (sym e ∙ seen-same (contents image n) long expected q);
+    passes = λ e. same-seen (contents image n) long expected e;
+    apart = λ d q. d q;
+  }
+    where
+      long : (page : List ℕ) → contents image n ≡ some page → length page ≡ 60
+      long page e = contents-length image (unrefused-sound image partition s) n page e
+
+-- ---- what each number says
+
+module _ (image : List ℕ) (n : ℕ) (buffer : List ℕ) where
+  abbrev ReadTold : ℕ → Type 0
+  ReadTold code =
+      cond (eqb code 6) (topNumber (length image) < n)
+      (cond (eqb code 8) ((n ≤ topNumber (length image)) × (length buffer ≢ 60))
+      (cond (eqb code 7) ((n ≤ topNumber (length image)) × (length buffer ≡ 60) × (contents image n ≡ none))
+      ((n ≤ topNumber (length image)) × (length buffer ≡ 60) × (contents image n ≢ none))))
+
+  read-meant : ReadCodes image n buffer (readRows image n buffer)
+  unfolding readRows
+  read-meant =
+      let six = says-6 image n in
+      let eight = says-other (length buffer) 60 in
+      let seven = says-7 (contents image n) in
+      let told : ReadTold (readRows image n buffer) =
+      by-test six (λ t w. rw t w) λ t a.
+      rw t (by-test eight (λ t w. rw t (a, w)) λ t b.
+      rw t (by-test seven (λ t w. rw t (a, b, w)) λ t c.
+      rw t (a, b, c))) in
+      record {
+        row-6 = (λ e. subst ReadTold e told, λ h. rw (is-wrong six h));
+        row-8 = (λ e. subst ReadTold e told, λ h. rw (is-right six (h .0), is-wrong eight (h .1)));
+        row-7 = (λ e. subst ReadTold e told, λ h. rw (is-right six (h .0), is-right eight (h .1), is-wrong seven (h .2)));
+        row-0 = (λ e. subst ReadTold e told, λ h. rw (is-right six (h .0), is-right eight (h .1), is-right seven (h .2)));
+      }
+
+module _ (image : List ℕ) (partition n : ℕ) (expected page : List ℕ) (s : refusal image partition ≡ 0) where
+  abbrev SaveTold : ℕ → Type 0
+  SaveTold code =
+      cond (eqb code 6) (topNumber (length image) < n)
+      (cond (eqb code 8) ((n ≤ topNumber (length image)) × LengthsRefused expected page)
+      (cond (eqb code 9) ((n ≤ topNumber (length image)) × LengthsTaken expected page × (expectedPage expected ≢ contents image n))
+      ((n ≤ topNumber (length image)) × LengthsTaken expected page × (expectedPage expected ≡ contents image n))))
+
+  save-meant : SaveCodes image n expected page (saveRows image n expected page)
+  unfolding saveRows
+  save-meant =
+      let six = says-6 image n in
+      let eight = says-lengths expected page in
+      let nine = says-9 image n partition expected s in
+      let told : SaveTold (saveRows image n expected page) =
+      by-test six (λ t w. rw t w) λ t a.
+      rw t (by-test eight (λ t w. rw t (a, w)) λ t b.
+      rw t (by-test nine (λ t w. rw t (a, b, w)) λ t c.
+      rw t (a, b, c))) in
+      record {
+        row-6 = (λ e. subst SaveTold e told, λ h. rw (is-wrong six h));
+        row-8 = (λ e. subst SaveTold e told, λ h. rw (is-right six (h .0), is-wrong eight (h .1)));
+        row-9 = (λ e. subst SaveTold e told, λ h. rw (is-right six (h .0), is-right eight (h .1), is-wrong nine (h .2)));
+        row-0 = (λ e. subst SaveTold e told, λ h. rw (is-right six (h .0), is-right eight (h .1), is-right nine (h .2)));
+      }
+
+-- ---- of a call
+
+-- an accepted read
+pub record AcceptedRead (image : List ℕ) (partition n : ℕ) : Type 0 where
+  pub unrefused-1-5 : refusal image partition ≡ 0
+  pub there : contents image n ≢ none
+
+-- an accepted save
+pub record AcceptedSave (image : List ℕ) (partition n : ℕ) (page : List ℕ) : Type 0 where
+  pub unrefused-1-5 : refusal image partition ≡ 0
+  pub in-range : n ≤ topNumber (length image)
+  pub page-60 : length page ≡ 60
+
+module _ (image : List ℕ) (partition n : ℕ) where
+  module _ (buffer : List ℕ) where
+    pub read-codes : refusal image partition ≡ 0 → ReadCodes image n buffer (codeOf image (onPage (read partition n buffer)))
+    unfolding codeOf
+    read-codes s = rw s (read-meant image n buffer)
+
+    pub read-rows : codeOf image (onPage (read partition n buffer)) ≡ 0 → AcceptedRead image partition n
+    unfolding codeOf
+    read-rows e =
+        let z = first-zero (refusal image partition) (readRows image n buffer) e in
+        record { unrefused-1-5 = z .0; there = read-meant image n buffer .row-0 .0 (z .1) .2 }
+
+  module _ (expected page : List ℕ) where
+    pub save-codes : refusal image partition ≡ 0 → SaveCodes image n expected page (codeOf image (onPage (save partition n expected page)))
+    unfolding codeOf
+    save-codes s = rw s (save-meant image partition n expected page s)
+
+    pub save-rows : codeOf image (onPage (save partition n expected page)) ≡ 0 → AcceptedSave image partition n page
+    unfolding codeOf
+    save-rows e =
+        let z = first-zero (refusal image partition) (saveRows image n expected page) e in
+        let m = save-meant image partition n expected page (z .0) .row-0 .0 (z .1) in
+        record { unrefused-1-5 = z .0; in-range = m .0; page-60 = m .1 .0 }
