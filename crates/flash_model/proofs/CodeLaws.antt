@@ -72,29 +72,34 @@ module _ (image : List ℕ) (n : ℕ) where
 -- ---- what each number says
 
 module _ (image : List ℕ) (n : ℕ) (buffer : List ℕ) where
+  says-8 : Says (not (eqb (length buffer) 60)) (length buffer ≢ 60) (length buffer ≡ 60)
+  says-8 = says-other (length buffer) 60
+
   abbrev ReadTold : ℕ → Type 0
   ReadTold code =
       cond (eqb code 6) (topNumber (length image) < n)
       (cond (eqb code 8) ((n ≤ topNumber (length image)) × (length buffer ≢ 60))
       (cond (eqb code 7) ((n ≤ topNumber (length image)) × (length buffer ≡ 60) × (contents image n ≡ none))
       ((n ≤ topNumber (length image)) × (length buffer ≡ 60) × (contents image n ≢ none))))
+      × (code ≤ 9)
+
+  pub read-told : {code : ℕ} → readRows image n buffer ≡ code → ReadTold code
+  unfolding readRows
+  read-told q = subst ReadTold q (by-test (says-6 image n) (λ t w. rw t (w, omega arith)) λ t a.
+      rw t (by-test says-8 (λ t w. rw t ((a, w), omega arith)) λ t b.
+      rw t (by-test (says-7 (contents image n)) (λ t w. rw t ((a, b, w), omega arith)) λ t c.
+      rw t ((a, b, c), omega arith))))
 
   read-meant : ReadCodes image n buffer (readRows image n buffer)
   unfolding readRows
   read-meant =
       let six = says-6 image n in
-      let eight = says-other (length buffer) 60 in
       let seven = says-7 (contents image n) in
-      let told : ReadTold (readRows image n buffer) =
-      by-test six (λ t w. rw t w) λ t a.
-      rw t (by-test eight (λ t w. rw t (a, w)) λ t b.
-      rw t (by-test seven (λ t w. rw t (a, b, w)) λ t c.
-      rw t (a, b, c))) in
       record {
-        row-6 = (λ e. subst ReadTold e told, λ h. rw (is-wrong six h));
-        row-8 = (λ e. subst ReadTold e told, λ h. rw (is-right six (h .0), is-wrong eight (h .1)));
-        row-7 = (λ e. subst ReadTold e told, λ h. rw (is-right six (h .0), is-right eight (h .1), is-wrong seven (h .2)));
-        row-0 = (λ e. subst ReadTold e told, λ h. rw (is-right six (h .0), is-right eight (h .1), is-right seven (h .2)));
+        row-6 = (λ e. read-told e .0, λ h. rw (is-wrong six h));
+        row-8 = (λ e. read-told e .0, λ h. rw (is-right six (h .0), is-wrong says-8 (h .1)));
+        row-7 = (λ e. read-told e .0, λ h. rw (is-right six (h .0), is-right says-8 (h .1), is-wrong seven (h .2)));
+        row-0 = (λ e. read-told e .0, λ h. rw (is-right six (h .0), is-right says-8 (h .1), is-right seven (h .2)));
       }
 
 module _ (image : List ℕ) (partition n : ℕ) (expected page : List ℕ) (s : refusal image partition ≡ 0) where
@@ -104,6 +109,14 @@ module _ (image : List ℕ) (partition n : ℕ) (expected page : List ℕ) (s : 
       (cond (eqb code 8) ((n ≤ topNumber (length image)) × LengthsRefused expected page)
       (cond (eqb code 9) ((n ≤ topNumber (length image)) × LengthsTaken expected page × (expectedPage expected ≢ contents image n))
       ((n ≤ topNumber (length image)) × LengthsTaken expected page × (expectedPage expected ≡ contents image n))))
+      × (code ≤ 9)
+
+  pub save-told : {code : ℕ} → saveRows image n expected page ≡ code → SaveTold code
+  unfolding saveRows
+  save-told q = subst SaveTold q (by-test (says-6 image n) (λ t w. rw t (w, omega arith)) λ t a.
+      rw t (by-test (says-lengths expected page) (λ t w. rw t ((a, w), omega arith)) λ t b.
+      rw t (by-test (says-9 image n partition expected s) (λ t w. rw t ((a, b, w), omega arith)) λ t c.
+      rw t ((a, b, c), omega arith))))
 
   save-meant : SaveCodes image n expected page (saveRows image n expected page)
   unfolding saveRows
@@ -111,16 +124,11 @@ module _ (image : List ℕ) (partition n : ℕ) (expected page : List ℕ) (s : 
       let six = says-6 image n in
       let eight = says-lengths expected page in
       let nine = says-9 image n partition expected s in
-      let told : SaveTold (saveRows image n expected page) =
-      by-test six (λ t w. rw t w) λ t a.
-      rw t (by-test eight (λ t w. rw t (a, w)) λ t b.
-      rw t (by-test nine (λ t w. rw t (a, b, w)) λ t c.
-      rw t (a, b, c))) in
       record {
-        row-6 = (λ e. subst SaveTold e told, λ h. rw (is-wrong six h));
-        row-8 = (λ e. subst SaveTold e told, λ h. rw (is-right six (h .0), is-wrong eight (h .1)));
-        row-9 = (λ e. subst SaveTold e told, λ h. rw (is-right six (h .0), is-right eight (h .1), is-wrong nine (h .2)));
-        row-0 = (λ e. subst SaveTold e told, λ h. rw (is-right six (h .0), is-right eight (h .1), is-right nine (h .2)));
+        row-6 = (λ e. save-told e .0, λ h. rw (is-wrong six h));
+        row-8 = (λ e. save-told e .0, λ h. rw (is-right six (h .0), is-wrong eight (h .1)));
+        row-9 = (λ e. save-told e .0, λ h. rw (is-right six (h .0), is-right eight (h .1), is-wrong nine (h .2)));
+        row-0 = (λ e. save-told e .0, λ h. rw (is-right six (h .0), is-right eight (h .1), is-right nine (h .2)));
       }
 
 -- ---- of a call

@@ -25,7 +25,7 @@ use Rattle.flash_model.proofs.SoundLaws.{unrefused-sound, sound-measure
 use Rattle.flash_model.proofs.AppendLaws.{bit-falls, bit-other, appended-block, bytes-below, bytes-above, appended-length}
 use Rattle.flash_model.proofs.CompactLaws.{compacted-as}
 use Rattle.flash_model.proofs.SaveLaws.{append-blank, blank-append, holders-writable, others-writable, erased-keeps, erased-contents, saved-keeps, saved-contents}
-use Rattle.flash_model.proofs.CallLaws.{answered-code, accepted-image, accepted-values, accepted-buffers, refused-image, refused-buffers, refused-values}
+use Rattle.flash_model.proofs.CallLaws.{answered-code, accepted-image, accepted-values, accepted-buffers, refused-image}
 use Rattle.flash_model.proofs.MeaningLaws.{contents-length, next-live, none-live}
 use Rattle.flash_model.proofs.CodeLaws.{read-codes, save-codes, read-rows, save-rows}
 
@@ -209,8 +209,6 @@ demand2 = record {
   whole-accepted = whole-accepted;
   read-codes = read-codes;
   save-codes = save-codes;
-  refusal-keeps = λ image c image′ answer a n.
-      (refused-image image c image′ answer a n, refused-buffers image c image′ answer a n, refused-values image c image′ answer a n);
   read-only-keeps = read-only-keeps;
   report-gives = report-gives;
   next-live-gives = next-live-gives;

@@ -16,6 +16,7 @@ pub mod CallLaws
 pub mod MeaningLaws
 pub mod CodeLaws
 pub mod Demand2Laws
+pub mod Demand1Laws
 pub mod StoreLaws
 pub mod RunLaws
 pub mod ByteLaws

@@ -1,4 +1,4 @@
--- Demands 2 and 3 (document 00) as facts about the definitions, in plain logic.
+-- The three demands (document 00) as facts about the definitions, in plain logic.
 -- Assumes nothing.
 use Prim.Native.Nat.{ℕ, suc, _+_, _*_, _≤_, _<_}
 use mathlib.Core.Path.{_≡_}
@@ -98,6 +98,24 @@ pub record Meanings : Type 0 where
   pub live-are : (image : List ℕ) → Sound image → live image ≡ length (holders image)
   pub next-live : (image : List ℕ) (start n : ℕ) → Sound image → (lowestLive image start ≡ some n) ↔ NextLiveIs image start n
   pub same-bytes : (a b : List ℕ) → (sameBytes a b ≡ true) ↔ (a ≡ b)
+
+-- ---- demand 1
+
+-- "Any bytes at all may be handed in as an image, a page or a number": each field is about every image and every call, and no
+-- public call has a `requires`.
+-- "Every public call ends, reads and writes only inside what it was lent, and tests its own input": that it ends and stays
+-- inside, the toolchain proves of each function; what it then answers and leaves is `answered`, and the image is no longer and
+-- no shorter (`same-length`).
+-- "A refusal gives the number in document 01's table, and the image and every other buffer stay byte for byte as they came in":
+-- `in-table` and `refusal-keeps`; which number it is, `Meanings` and demand 2 say.
+pub record Demand1 : Type 0 where
+  pub answered : (image : List ℕ) (c : Call) → (image′ : List ℕ) × (answer : Reply) × Answered image c image′ answer
+  -- 0 to 9 are the table's numbers for a partition
+  pub in-table : (image : List ℕ) (c : Call) → codeOf image c ≤ 9
+  -- it hands nothing back either
+  pub refusal-keeps : (image : List ℕ) (c : Call) (image′ : List ℕ) (answer : Reply) → Answered image c image′ answer
+      → answer .code ≢ 0 → (image′ ≡ image) × (answer .buffers ≡ buffersOf c) × (answer .values ≡ [])
+  pub same-length : (image : List ℕ) (c : Call) (image′ : List ℕ) (answer : Reply) → Answered image c image′ answer → length image′ ≡ length image
 
 -- ---- demand 2
 
@@ -220,9 +238,6 @@ pub record Demand2 : Type 0 where
       → ReadCodes image n buffer (codeOf image (onPage (read partition n buffer)))
   pub save-codes : (image : List ℕ) (partition n : ℕ) (expected page : List ℕ) → refusal image partition ≡ 0
       → SaveCodes image n expected page (codeOf image (onPage (save partition n expected page)))
-  -- a refusal leaves the image and every buffer as they were, and hands nothing back
-  pub refusal-keeps : (image : List ℕ) (c : Call) (image′ : List ℕ) (answer : Reply) → Answered image c image′ answer
-      → answer .code ≢ 0 → (image′ ≡ image) × (answer .buffers ≡ buffersOf c) × (answer .values ≡ [])
   pub read-only-keeps : (image : List ℕ) (c : Call) (image′ : List ℕ) (answer : Reply) → ReadOnly c → Answered image c image′ answer → image′ ≡ image
   pub report-gives : (image : List ℕ) (partition : ℕ) (image′ : List ℕ) (answer : Reply)
       → Answered image (onWhole (report partition)) image′ answer → answer .code ≡ 0
