@@ -1,6 +1,5 @@
 // Reads and saves of one page, on a partition that refusals 1 to 5 don't apply to.
 use bitmap::Found;
-use loads::little8;
 use partition::blocks::find;
 use partition::blocks::part_from;
 use partition::opening::Log;
@@ -11,7 +10,6 @@ ghost use mathlib.Core.Bool.{true, cond};
 ghost use Prim.Native.Nat.{_≤_};
 ghost use lib.Dec.{eqb};
 ghost use lib.ListN.{length};
-ghost use Rattle.words.specs.Words.{sameBytes};
 ghost use Rattle.flash_model.specs.Measures.{legalNumber, topNumber};
 ghost use Rattle.flash_model.specs.Partition.{row};
 ghost use Rattle.flash_model.specs.Update.{appendBlock, saved};
@@ -52,24 +50,6 @@ fn wrong_lengths(expected: &[u8], page: &[u8]) -> bool
     expected.len() != 60
 }
 
-// Whether a run is the same as a page: seven words of eight bytes, and four bytes. HasMeasures all 60 bytes `same` is compiled to steps of
-// eight with more between them than in them.
-fn same_page(page: &[u8], other: &[u8]) -> bool
-    requires { ⌜ length (now page) ≡ 60 ⌝ }
-    ensures { λ r. ⌜ r ≡ sameBytes (now (page .entry)) (now (other .entry)) ⌝ }
-{
-    if other.len() != 60 {
-        return false;
-    }
-    let mut alike = true;
-    let mut i: usize = 0;
-    while i < 56 {
-        alike = alike & (little8(page, i) == little8(other, i));
-        i += 8;
-    }
-    alike & same(&page[56..60], &other[56..60])
-}
-
 // 9 where the contents of the number are not what is expected, 0 bytes being nothing; else 0.
 fn changed(image: &[u8], log: Log, number: usize, expected: &[u8]) -> u8
     requires { ⌜ Usable (now image) log ⌝ }
@@ -87,7 +67,7 @@ fn changed(image: &[u8], log: Log, number: usize, expected: &[u8]) -> u8
         return 9;
     };
     let block = part_from(image, log.m, k);
-    if same_page(&block[2..62], expected) {
+    if same(&block[2..62], expected) {
         return 0;
     }
     9

@@ -50,17 +50,17 @@ part-from-requires c κs =
     let u = a .pre .0 in
     (usable-has u, found-high u (a .args .number) _ (sym (c .before .before .before .before .find .ensures) ∙ c .before .found .given .1))
 
-sub-same-page : tie.Need-sub-same-page
-sub-same-page c = search needs
+sub-same : tie.Need-sub-same
+sub-same c = search needs
 
-part-same-page-start : tie.Need-part-same-page-start
-part-same-page-start c = search needs
+part-same-start : tie.Need-part-same-start
+part-same-start c = search needs
 
-part-same-page-end : tie.Need-part-same-page-end
-part-same-page-end c = search needs
+part-same-end : tie.Need-part-same-end
+part-same-end c = search needs
 
-same-page-requires : tie.Need-same-page-requires
-same-page-requires c κs = search needs
+same-requires : tie.Need-same-requires
+same-requires c κs = search needs
 
 returns-4 : tie.Need-returns-4
 returns-4 c =
@@ -68,7 +68,7 @@ returns-4 c =
     let u = a .pre .0 in
     let part = c .before .before .before .part-from in
     compared u (a .args .number) (a .args .expected .now) _ (sym (c .before .before .before .before .before .before .before .before .find .ensures) ∙ c .before .before .before .before .before .found .given .1) true
-    (sym (c .if2 .taken) ∙ c .before .same-page .ensures ∙ ap (λ (l : List ℕ). sameBytes l (a .args .expected .now)) (payload-part (part .result .now) _ (part .ensures .0)))
+    (sym (c .if2 .taken) ∙ c .before .same .ensures ∙ ap (λ (l : List ℕ). sameBytes l (a .args .expected .now)) (payload-part (part .result .now) _ (part .ensures .0)))
 
 returns-5 : tie.Need-returns-5
 returns-5 c =
@@ -76,7 +76,7 @@ returns-5 c =
     let u = a .pre .0 in
     let part = c .before .before .before .part-from in
     compared u (a .args .number) (a .args .expected .now) _ (sym (c .before .before .before .before .before .before .before .before .find .ensures) ∙ c .before .before .before .before .before .found .given .1) false
-    (sym (c .if2 .left) ∙ c .before .same-page .ensures ∙ ap (λ (l : List ℕ). sameBytes l (a .args .expected .now)) (payload-part (part .result .now) _ (part .ensures .0)))
+    (sym (c .if2 .left) ∙ c .before .same .ensures ∙ ap (λ (l : List ℕ). sameBytes l (a .args .expected .now)) (payload-part (part .result .now) _ (part .ensures .0)))
 
 pub changed-spec : {M : Type 1} → statement M
 changed-spec =
@@ -91,9 +91,9 @@ changed-spec =
     enum-told-3
     returns-3
     part-from-requires
-    sub-same-page
-    part-same-page-start
-    part-same-page-end
-    same-page-requires
+    sub-same
+    part-same-start
+    part-same-end
+    same-requires
     returns-4
     returns-5)
