@@ -19,7 +19,7 @@ use Rattle.flash_model.specs.Partition.{bitmapOf}
 use Rattle.flash_model.specs.Update.{beforeBitmap, bitsCleared, rewritten, compacted}
 use Rattle.flash_model.specs.Demands.{Bytes}
 
--- a list of numerals is tests-of by computation
+-- a list of numerals is tested by computation
 unfoldable pub small : List ℕ → Bool
 small [] = true
 small (x ∷ l) = ltb x 256 && small l

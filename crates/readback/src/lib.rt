@@ -1,4 +1,5 @@
-// Demand 3 on the running calls: whatever stands between, a writer reads its own page back.
+// Demand 3 on the running calls, for one list of them: a writer saves, others make five calls, and the writer reads its own page back.
+// Any other list is the theorem's (`Demand3.runs-as-store`).
 use flash::check;
 use flash::erase;
 use flash::next_live;

@@ -1,4 +1,4 @@
--- Document 01's own report, and numbers of one digit to four, by computation.
+-- The lines of document 01's sample report from its values, a report of no bytes, and numbers of one digit to four, by computation.
 -- Assumes nothing.
 use Prim.Native.Nat.{ℕ}
 use mathlib.Core.Path.{_≡_, refl}
@@ -8,7 +8,9 @@ use Rattle.flash_model.specs.Measures.{sizes, legalSize}
 use Rattle.flash_model.specs.Partition.{lengthRow, refusal}
 use Rattle.report_text.specs.Text.{decimal, line, blockWord, endLine, partitionFor, headLines, textFor, reportText}
 
--- "For partition 3, version 1, empty but for block 24 saved twice with different pages, the whole output is these lines"
+-- "For partition 3, version 1, empty but for block 24 saved twice with different pages, the whole output is these lines". Here
+-- they are made of the five values and the one number; that the image has these, the gate shows by running the program on it
+-- (crates/report/stdin, stdout).
 sampleLines : List (List ℕ)
 sampleLines =
     -- partition 3
@@ -26,9 +28,9 @@ sampleLines =
     -- end
     ∷ (101 ∷ 110 ∷ 100 ∷ 10 ∷ []) ∷ []
 
-sample-report : headLines 3 1 510 2 1 ++ (concat (map (line blockWord) (24 ∷ [])) ++ endLine) ≡ concat sampleLines
+sample-lines : headLines 3 1 510 2 1 ++ (concat (map (line blockWord) (24 ∷ [])) ++ endLine) ≡ concat sampleLines
 unfolding sampleLines headLines line decimal
-sample-report = refl
+sample-lines = refl
 
 -- No bytes at all: refused 1.
 no-input : reportText [] ≡ 114 ∷ 101 ∷ 102 ∷ 117 ∷ 115 ∷ 101 ∷ 100 ∷ 32 ∷ 49 ∷ 10 ∷ []
