@@ -3,7 +3,7 @@
  * Link target/staticlib/libcapi.a, which `rt staticlib capi` makes (x86-64).
  *
  * Every call ends, tests its own input, and reads and writes only inside the buffers it is lent. It answers a number: 0 when it
- * is done, else the refusal's, and then no byte of any buffer has changed. docs/MANUAL.md has the numbers.
+ * is done, else the refusal's, and then no byte of any buffer has changed. docs/MANUAL.md says what to do about each number.
  *
  * What the caller answers for:
  * - A buffer is a pointer and the length behind it in bytes; so many bytes must be there, writable where the pointer is not to
@@ -22,11 +22,96 @@
 extern "C" {
 #endif
 
+/* The numbers that calls answer. */
+enum galtuyeg_code {
+    GALTUYEG_DONE = 0,
+
+    GALTUYEG_FLASH_WRONG_LENGTH = 1,
+    GALTUYEG_FLASH_WRONG_MAGIC = 2,
+    GALTUYEG_FLASH_WRONG_PARTITION_NUMBER = 3,
+    GALTUYEG_FLASH_WRONG_VERSION = 4,
+    GALTUYEG_FLASH_WRONG_SEQUENCE = 5,
+    GALTUYEG_FLASH_WRONG_LOGICAL_NUMBER = 6,
+    GALTUYEG_FLASH_NOTHING_THERE = 7,
+    GALTUYEG_FLASH_WRONG_BUFFER_LENGTH = 8,
+    GALTUYEG_FLASH_CHANGED = 9,
+
+    GALTUYEG_CARD_WRONG_LENGTH = 20,
+    GALTUYEG_CARD_WRONG_FORMAT = 21,
+    GALTUYEG_CARD_WRONG_ROOT = 22,
+    GALTUYEG_CARD_WRONG_SYSTEM_BLOCK = 23,
+    GALTUYEG_CARD_WRONG_HIDDEN_BLOCK = 24,
+    GALTUYEG_CARD_WRONG_USER_BLOCK = 25,
+    GALTUYEG_CARD_WRONG_ENTRY = 26,
+    GALTUYEG_CARD_WRONG_CHAIN = 27,
+    GALTUYEG_CARD_SHARED_BLOCK = 28,
+    GALTUYEG_CARD_SAME_NAME = 29,
+    GALTUYEG_CARD_WRONG_GAME = 30,
+    GALTUYEG_CARD_NO_FILE = 31,
+    GALTUYEG_CARD_WRONG_INDEX = 32,
+    GALTUYEG_CARD_WRONG_BUFFER_LENGTH = 33
+};
+
+/* A number in words; never NULL. */
+static inline const char *galtuyeg_code_text(uint64_t code)
+{
+    switch (code) {
+    case GALTUYEG_DONE:
+        return "done";
+    case GALTUYEG_FLASH_WRONG_LENGTH:
+        return "the image length is not one of the three";
+    case GALTUYEG_FLASH_WRONG_MAGIC:
+        return "the 16 header letters are wrong";
+    case GALTUYEG_FLASH_WRONG_PARTITION_NUMBER:
+        return "the header number differs from the one named";
+    case GALTUYEG_FLASH_WRONG_VERSION:
+        return "the version is above 1";
+    case GALTUYEG_FLASH_WRONG_SEQUENCE:
+        return "an allocated user block follows a free one";
+    case GALTUYEG_FLASH_WRONG_LOGICAL_NUMBER:
+        return "the logical number is above the top one";
+    case GALTUYEG_FLASH_NOTHING_THERE:
+        return "nothing is there";
+    case GALTUYEG_FLASH_WRONG_BUFFER_LENGTH:
+        return "the page buffer is not 60 bytes, or the expected page neither 0 nor 60";
+    case GALTUYEG_FLASH_CHANGED:
+        return "the contents differ from the expected page, or only one of them is nothing";
+    case GALTUYEG_CARD_WRONG_LENGTH:
+        return "the card length is not 131,072";
+    case GALTUYEG_CARD_WRONG_FORMAT:
+        return "root bytes 0..15 are not all 55";
+    case GALTUYEG_CARD_WRONG_ROOT:
+        return "the root fields are wrong";
+    case GALTUYEG_CARD_WRONG_SYSTEM_BLOCK:
+        return "a table entry of blocks 241..255 is wrong";
+    case GALTUYEG_CARD_WRONG_HIDDEN_BLOCK:
+        return "a table entry of blocks 200..240 is neither FFFC nor FFFF";
+    case GALTUYEG_CARD_WRONG_USER_BLOCK:
+        return "a user block's table entry is not FFFC, FFFF, FFFA or 0..199";
+    case GALTUYEG_CARD_WRONG_ENTRY:
+        return "bad directory entry";
+    case GALTUYEG_CARD_WRONG_CHAIN:
+        return "bad chain";
+    case GALTUYEG_CARD_SHARED_BLOCK:
+        return "a block is also in an earlier entry's file";
+    case GALTUYEG_CARD_SAME_NAME:
+        return "the name is that of an earlier used entry";
+    case GALTUYEG_CARD_WRONG_GAME:
+        return "the game rule is broken";
+    case GALTUYEG_CARD_NO_FILE:
+        return "no file of that name, or no used entry from there on";
+    case GALTUYEG_CARD_WRONG_INDEX:
+        return "the block index is not below the file's size";
+    case GALTUYEG_CARD_WRONG_BUFFER_LENGTH:
+        return "the name is not 12 bytes, or the block buffer not 512";
+    default:
+        return "unknown number";
+    }
+}
+
 /* ---- System flash partitions: images of 16,384, 32,768 or 65,536 bytes. `partition` is the number that the header must have.
  *
- * Numbers: 0 done; 1 length; 2 header letters; 3 partition number; 4 version; 5 allocated block after a free one; 6 logical
- * number too high; 7 nothing there; 8 buffer length; 9 contents are not what was expected. Tested in the order 1 to 5, 6, 8,
- * then 7 or 9. */
+ * Numbers 0 to 9, tested in the order 1 to 5, 6, 8, then 7 or 9. */
 
 #define GALTUYEG_PAGE_BYTES 60
 
@@ -67,9 +152,8 @@ uint32_t galtuyeg_flash_erase(uint8_t *image, size_t image_len, uint8_t partitio
 
 /* ---- Memory cards: images of 131,072 bytes.
  *
- * Numbers: 0 done; 20 length; 21 and 22 root block; 23 to 25 allocation table; 26 directory entry; 27 chain; 28 block in two
- * files; 29 name twice; 30 game rule; 31 no such file, or no entry left; 32 index too high; 33 length of name or block buffer.
- * `place_kind` says what `place` is. After a refusal all values but `code`, `place_kind` and `place` are 0. */
+ * Numbers 0 and 20 to 33, 20 to 30 tested in this order. `place_kind` says what `place` is. After a refusal all values but
+ * `code`, `place_kind` and `place` are 0. */
 
 #define GALTUYEG_NAME_BYTES 12
 #define GALTUYEG_TIME_BYTES 8

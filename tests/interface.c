@@ -1,5 +1,5 @@
 /* Each call of include/galtuyeg.h from C, where it is done and where it is refused, then with its buffers as they were; NULL
- * for each buffer, of length 0.
+ * for each buffer, of length 0; the numbers' texts.
  * Ends with a line that counts the facts tested, or with the first that fails and status 1. */
 #include <stdio.h>
 #include <stdlib.h>
@@ -67,6 +67,21 @@ static void format_card(uint8_t *card)
     memcpy(entry + 16, "\x19\x99\x11\x15\x23\x59\x58\x06", 8);
     put_word(entry + 0x18, 1);
     memset(card + 199 * 512, 0xA5, 512);
+}
+
+static void texts(void)
+{
+    const char *unknown = galtuyeg_code_text(UINT64_MAX);
+    uint64_t code;
+
+    CHECK(strcmp(unknown, "unknown number") == 0);
+    for (code = 0; code < 100; code++) {
+        int known = code <= GALTUYEG_FLASH_CHANGED
+            || (code >= GALTUYEG_CARD_WRONG_LENGTH && code <= GALTUYEG_CARD_WRONG_BUFFER_LENGTH);
+        CHECK((strcmp(galtuyeg_code_text(code), unknown) != 0) == known);
+    }
+    CHECK(strcmp(galtuyeg_code_text(5), "an allocated user block follows a free one") == 0);
+    CHECK(strcmp(galtuyeg_code_text(28), "a block is also in an earlier entry's file") == 0);
 }
 
 static void flash_calls(uint8_t *image, uint8_t *before)
@@ -163,6 +178,7 @@ int main(void)
 
     if (image == NULL || before == NULL || card == NULL)
         return 2;
+    texts();
     flash_calls(image, before);
     card_calls(card);
     free(image);
