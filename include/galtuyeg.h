@@ -22,6 +22,12 @@
 extern "C" {
 #endif
 
+/* Raised by 1 whenever a function, a struct or a number of this interface is added or changed. */
+#define GALTUYEG_VERSION 1
+
+/* The linked library's GALTUYEG_VERSION. Where it differs from this header's the two don't fit, and nothing else may be called. */
+uint32_t galtuyeg_version(void);
+
 /* The numbers that calls answer. */
 enum galtuyeg_code {
     GALTUYEG_DONE = 0,

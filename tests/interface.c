@@ -1,5 +1,5 @@
 /* Each call of include/galtuyeg.h from C, where it is done and where it is refused, then with its buffers as they were; NULL
- * for each buffer, of length 0; the numbers' texts.
+ * for each buffer, of length 0; the version, and the numbers' texts.
  * Ends with a line that counts the facts tested, or with the first that fails and status 1. */
 #include <stdio.h>
 #include <stdlib.h>
@@ -69,11 +69,12 @@ static void format_card(uint8_t *card)
     memset(card + 199 * 512, 0xA5, 512);
 }
 
-static void texts(void)
+static void version_and_texts(void)
 {
     const char *unknown = galtuyeg_code_text(UINT64_MAX);
     uint64_t code;
 
+    CHECK(galtuyeg_version() == GALTUYEG_VERSION);
     CHECK(strcmp(unknown, "unknown number") == 0);
     for (code = 0; code < 100; code++) {
         int known = code <= GALTUYEG_FLASH_CHANGED
@@ -178,7 +179,7 @@ int main(void)
 
     if (image == NULL || before == NULL || card == NULL)
         return 2;
-    texts();
+    version_and_texts();
     flash_calls(image, before);
     card_calls(card);
     free(image);

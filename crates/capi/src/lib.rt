@@ -17,7 +17,17 @@ ghost use mathlib.Core.List.{[], _∷_};
 ghost use Rattle.flash_model.specs.Calls.{Answered, replyTo, Call.onPage, Call.onWhole, PageCall.read, PageCall.save, WholeCall.check, WholeCall.report, WholeCall.nextLive, WholeCall.erase};
 ghost use Rattle.flash.specs.Answers.{numbered};
 ghost use Rattle.card_model.specs.Calls.{checkOf, listOf, readVerdict, readBuffer};
+ghost use Rattle.capi.specs.Interface.{interfaceVersion};
 ghost use Rattle.capi.specs.Structs.{reportOf, nextLiveOf, cardCheckOf, cardEntryOf, cardVerdictOf};
+
+const INTERFACE_VERSION: u32 = 1;
+
+#[no_mangle]
+pub extern "C" fn galtuyeg_version() -> u32
+    ensures { λ r. ⌜ r ≡ interfaceVersion ⌝ }
+{
+    INTERFACE_VERSION
+}
 
 #[no_mangle]
 pub extern "C" fn galtuyeg_flash_check(image: &[u8], partition: u8) -> u32

@@ -81,6 +81,8 @@ pub struct CardVerdict {
 }
 
 extern "C" {
+    pub(crate) fn galtuyeg_version() -> u32;
+
     pub(crate) fn galtuyeg_flash_check(image: *const u8, image_len: usize, partition: u8) -> u32;
 
     pub(crate) fn galtuyeg_flash_report(

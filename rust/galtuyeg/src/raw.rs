@@ -10,6 +10,15 @@ use crate::ffi;
 
 pub use crate::ffi::{CardCheck, CardEntry, CardVerdict, NextLive, Report};
 
+/// The library's interface that this crate was written for: `GALTUYEG_VERSION` of `include/galtuyeg.h`.
+pub const VERSION: u32 = 1;
+
+/// The interface of the library that is linked. Where it isn't [`VERSION`] the two don't fit.
+pub fn version() -> u32 {
+    // SAFETY: nothing is lent.
+    unsafe { ffi::galtuyeg_version() }
+}
+
 /// Whether the image is a sound partition of this number: 0 to 5.
 pub fn flash_check(image: &[u8], partition: u8) -> u32 {
     // SAFETY: pointer and length are of one slice, borrowed for the call, which only reads it.

@@ -13,6 +13,11 @@ fn formatted() -> Vec<u8> {
 }
 
 #[test]
+fn the_library_has_the_interface_that_is_declared() {
+    assert_eq!(raw::version(), raw::VERSION);
+}
+
+#[test]
 fn a_page_saved_is_read_and_reported() {
     let mut image = formatted();
     assert_eq!(raw::flash_check(&image, 3), 0);
