@@ -171,7 +171,7 @@ enum galtuyeg_place_kind {
     GALTUYEG_DIRECTORY_ENTRY = 2
 };
 
-struct galtuyeg_card_check {
+struct galtuyeg_card_checked {
     uint64_t code;
     uint64_t place_kind;
     uint64_t place;
@@ -199,7 +199,7 @@ struct galtuyeg_card_verdict {
 };
 
 /* Whether the card is sound: 0, 20 to 30. */
-struct galtuyeg_card_check galtuyeg_card_check(const uint8_t *card, size_t card_len);
+struct galtuyeg_card_checked galtuyeg_card_check(const uint8_t *card, size_t card_len);
 
 /* The first used directory entry from entry `from` on, which may be any number: 0, 20 to 31. */
 struct galtuyeg_card_entry galtuyeg_card_list(const uint8_t *card, size_t card_len, uint64_t from);

@@ -135,7 +135,7 @@ static void card_calls(uint8_t *card)
 {
     uint8_t block[GALTUYEG_BLOCK_BYTES];
     const uint8_t *name = (const uint8_t *)"SAVE________";
-    struct galtuyeg_card_check checked;
+    struct galtuyeg_card_checked checked;
     struct galtuyeg_card_entry entry;
     struct galtuyeg_card_verdict read;
 

@@ -29,7 +29,7 @@ pub struct NextLive {
 /// What a card's check answers. After a refusal `orphans` is 0.
 #[repr(C)]
 #[derive(Clone, Copy, Debug, PartialEq, Eq)]
-pub struct CardCheck {
+pub struct CardChecked {
     /// 0, or the refusal's number.
     pub code: u64,
     /// What `place` is: 0 the whole card, 1 a block, 2 a directory entry.
@@ -120,7 +120,7 @@ extern "C" {
 
     pub(crate) fn galtuyeg_flash_erase(image: *mut u8, image_len: usize, partition: u8) -> u32;
 
-    pub(crate) fn galtuyeg_card_check(card: *const u8, card_len: usize) -> CardCheck;
+    pub(crate) fn galtuyeg_card_check(card: *const u8, card_len: usize) -> CardChecked;
 
     pub(crate) fn galtuyeg_card_list(card: *const u8, card_len: usize, from: u64) -> CardEntry;
 

@@ -8,7 +8,7 @@
 
 use crate::ffi;
 
-pub use crate::ffi::{CardCheck, CardEntry, CardVerdict, NextLive, Report};
+pub use crate::ffi::{CardChecked, CardEntry, CardVerdict, NextLive, Report};
 
 /// The library's interface that this crate was written for: `GALTUYEG_VERSION` of `include/galtuyeg.h`.
 pub const VERSION: u32 = 1;
@@ -85,7 +85,7 @@ pub fn flash_erase(image: &mut [u8], partition: u8) -> u32 {
 }
 
 /// Whether the card is sound, and its number of orphans: 0, 20 to 30.
-pub fn card_check(card: &[u8]) -> CardCheck {
+pub fn card_check(card: &[u8]) -> CardChecked {
     // SAFETY: pointer and length are of one slice, borrowed for the call, which only reads it.
     unsafe { ffi::galtuyeg_card_check(card.as_ptr(), card.len()) }
 }

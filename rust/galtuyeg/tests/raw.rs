@@ -1,7 +1,7 @@
 //! The calls as they are: the numbers and buffers that the wrapper hands on, and shared slices that
 //! overlap.
 
-use galtuyeg::raw::{self, CardCheck, CardEntry, CardVerdict, NextLive, Report};
+use galtuyeg::raw::{self, CardChecked, CardEntry, CardVerdict, NextLive, Report};
 
 /// A formatted partition 3: header, and a bitmap of free blocks.
 fn formatted() -> Vec<u8> {
@@ -55,7 +55,7 @@ fn empty_slices_are_refused_by_length() {
     assert_eq!(raw::flash_check(&[], 3), 1);
     assert_eq!(raw::flash_save(&mut [], 3, 0, &[], &[]), 1);
     let checked = raw::card_check(&[]);
-    let refused = CardCheck { code: 20, place_kind: 0, place: 0, orphans: 0 };
+    let refused = CardChecked { code: 20, place_kind: 0, place: 0, orphans: 0 };
     assert_eq!(checked, refused);
     let CardEntry { code, name, .. } = raw::card_list(&[], u64::MAX);
     assert_eq!((code, name), (20, [0; 12]));

@@ -73,13 +73,13 @@ impl Answer for Result<u64, u32> {
 }
 
 impl Answer for Result<u64, Refusal> {
-    type Raw = raw::CardCheck;
+    type Raw = raw::CardChecked;
 
     fn number(&self) -> u32 {
         self.map_or_else(|refusal| refusal.number, |_| 0)
     }
 
-    fn raw(self) -> raw::CardCheck {
+    fn raw(self) -> raw::CardChecked {
         self.map_or_else(|refusal| checked(verdict(refusal), 0), |orphans| checked(DONE, orphans))
     }
 }
@@ -143,9 +143,9 @@ pub fn no_live(number: u32) -> raw::NextLive {
     raw::NextLive { code: number.into(), number: 0 }
 }
 
-pub fn checked(verdict: CardVerdict, orphans: u64) -> raw::CardCheck {
+pub fn checked(verdict: CardVerdict, orphans: u64) -> raw::CardChecked {
     let CardVerdict { code, place_kind, place } = verdict;
-    raw::CardCheck { code, place_kind, place, orphans }
+    raw::CardChecked { code, place_kind, place, orphans }
 }
 
 /// What stands beside a refusal.
