@@ -93,6 +93,7 @@ fn typed_verdict(refusal: card::Refusal) -> raw::CardVerdict {
         card::Place::WholeCard => (0, 0),
         card::Place::Block(block) => (1, block.into()),
         card::Place::Entry(entry) => (2, entry.into()),
+        unknown => panic!("the comparison does not know the place {unknown}"),
     };
     raw::CardVerdict { code: refusal.number().into(), place_kind, place }
 }

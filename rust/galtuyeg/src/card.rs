@@ -57,6 +57,7 @@ pub const BLOCK_BYTES: usize = 512;
 /// tested in this order, each over the whole card before the next; then [`Reason::BufferLength`],
 /// [`Reason::NoFile`] and [`Reason::Index`].
 #[derive(Clone, Copy, Debug, PartialEq, Eq, Hash)]
+#[non_exhaustive]
 pub enum Reason {
     /// 20: the card isn't 131,072 bytes long.
     Length,
@@ -91,7 +92,7 @@ pub enum Reason {
 
 impl Reason {
     /// All reasons, in the order of their numbers.
-    pub const ALL: [Reason; 14] = [
+    pub const ALL: &'static [Reason] = &[
         Reason::Length,
         Reason::Format,
         Reason::Root,
@@ -130,7 +131,7 @@ impl Reason {
 
     /// The reason of this number, if there is one.
     pub fn from_number(number: u32) -> Option<Reason> {
-        Reason::ALL.into_iter().find(|reason| reason.number() == number)
+        Reason::ALL.iter().copied().find(|reason| reason.number() == number)
     }
 }
 
@@ -157,6 +158,7 @@ impl fmt::Display for Reason {
 
 /// Where on the card a refusal was met.
 #[derive(Clone, Copy, Debug, PartialEq, Eq, Hash)]
+#[non_exhaustive]
 pub enum Place {
     /// No place of its own.
     WholeCard,

@@ -16,6 +16,7 @@ pub const PAGE_BYTES: usize = 60;
 /// Why a call was refused. The order is that in which the calls test, save that
 /// [`BufferLength`](Refusal::BufferLength) comes before [`NothingThere`](Refusal::NothingThere).
 #[derive(Clone, Copy, Debug, PartialEq, Eq, Hash)]
+#[non_exhaustive]
 pub enum Refusal {
     /// 1: the image's length isn't one of the three.
     Length,
@@ -40,7 +41,7 @@ pub enum Refusal {
 
 impl Refusal {
     /// All refusals, in the order of their numbers.
-    pub const ALL: [Refusal; 9] = [
+    pub const ALL: &'static [Refusal] = &[
         Refusal::Length,
         Refusal::Magic,
         Refusal::PartitionNumber,
@@ -69,7 +70,7 @@ impl Refusal {
 
     /// The refusal of this number, if there is one.
     pub fn from_number(number: u32) -> Option<Refusal> {
-        Refusal::ALL.into_iter().find(|refusal| refusal.number() == number)
+        Refusal::ALL.iter().copied().find(|refusal| refusal.number() == number)
     }
 }
 

@@ -79,7 +79,7 @@ fn a_refusal_has_number_and_place() {
     put(&mut card, TABLE + 2 * 240, 0);
     let place = card::list(&card, 0).unwrap_err().place;
     assert_eq!(place, Place::Block(240));
-    assert!(Reason::ALL.map(Reason::number).into_iter().eq(20..=33));
+    assert!(Reason::ALL.iter().map(|reason| reason.number()).eq(20..=33));
 }
 
 #[test]
