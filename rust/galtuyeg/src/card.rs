@@ -23,11 +23,9 @@
 //! # entry[24] = 1;
 //! # let card = bytes.as_mut_slice();
 //! // `card` is a sound card with one file, a block long.
-//! let mut block = [0; 512];
 //! for entry in card::entries(card)? {
-//!     for index in 0..entry.size {
-//!         card::read(card, &entry.name, index.into(), &mut block)?;
-//!     }
+//!     let file = card::read_file(card, &entry.name)?;
+//!     assert_eq!(file.len(), usize::from(entry.size) * card::BLOCK_BYTES);
 //! }
 //!
 //! // Its root block spoiled, it is refused, and the refusal says where.
@@ -305,6 +303,25 @@ pub fn read(
 ) -> Result<(), Refusal> {
     let verdict = raw::card_read(card, name, index, block);
     answered(verdict.code, verdict.place_kind, verdict.place)
+}
+
+/// The whole file of this name, [`BLOCK_BYTES`] for each of its blocks. Each block takes a [`read`], which
+/// checks the whole card.
+///
+/// # Errors
+/// [`Refusal`] 20 to 31.
+pub fn read_file(card: &[u8], name: &[u8; NAME_BYTES]) -> Result<Vec<u8>, Refusal> {
+    let mut file = Vec::new();
+    let mut block = [0; BLOCK_BYTES];
+    for index in 0.. {
+        match read(card, name, index, &mut block) {
+            Ok(()) => file.extend_from_slice(&block),
+            // Behind the last block.
+            Err(Refusal { reason: Reason::Index, .. }) => break,
+            Err(refusal) => return Err(refusal),
+        }
+    }
+    Ok(file)
 }
 
 fn entry(listed: &raw::CardEntry) -> Entry {

@@ -1,36 +1,18 @@
 //! The typed calls on a card.
 
 use galtuyeg::card::{self, Checked, Entry, Kind, Place, Reason, Refusal};
+use inputs::card::{put, Card, File, BLOCK, CARD, DATA, GAME, LAST, ROOT, TABLE};
+use inputs::Prng;
 
-const TABLE: usize = 254 * 512;
-const ROOT: usize = 255 * 512;
 const NAME: &[u8; 12] = b"SETTINGS.DAT";
-
-fn put(card: &mut [u8], at: usize, value: u16) {
-    card[at..at + 2].copy_from_slice(&value.to_le_bytes());
-}
 
 /// A sound card with one file, entry 16, of block 199 and then 7; block 9 is an orphan.
 fn sound() -> Vec<u8> {
-    let mut card = vec![0; 131_072];
-    card[ROOT..ROOT + 16].fill(0x55);
-    for (at, value) in [(0x46, 254), (0x48, 1), (0x4a, 253), (0x4c, 13), (0x50, 200)] {
-        put(&mut card, ROOT + at, value);
-    }
-    for block in 0..=255 {
-        let link = match block {
-            7 | 9 | 241 | 254 | 255 => 0xfffa,
-            199 => 7,
-            242..=253 => block - 1,
-            _ => 0xfffc,
-        };
-        put(&mut card, TABLE + 2 * usize::from(block), link);
-    }
-    let entry = &mut card[252 * 512..][..32];
-    (entry[0], entry[2], entry[24]) = (0x33, 199, 2);
-    entry[4..16].copy_from_slice(NAME);
-    card[7 * 512..8 * 512].fill(0xaa);
-    card
+    let mut card = Card::formatted(vec![0; CARD]);
+    card.add(File { entry: 16, kind: DATA, name: *NAME, blocks: vec![199, 7] });
+    card.set_link(9, LAST);
+    card.bytes[7 * 512..8 * 512].fill(0xaa);
+    card.bytes
 }
 
 #[test]
@@ -56,6 +38,31 @@ fn a_sound_card_is_listed_and_read() {
     assert_eq!((late.number(), late.place), (32, Place::WholeCard));
     let missing = card::read(&card, b"SETTINGS.BAK", 0, &mut block).unwrap_err();
     assert_eq!(missing.reason, Reason::NoFile);
+}
+
+#[test]
+fn a_file_is_read_whole() {
+    let mut card = Card::formatted(vec![0; CARD]);
+    Prng::new(1, 0).fill(&mut card.bytes[..200 * BLOCK]);
+    let files = [
+        (207, GAME, *b"MINIGAME.VMS", (0..128).collect()),
+        (3, DATA, *NAME, vec![199, 130, 150, 131]),
+        (0, DATA, [0; 12], vec![198]),
+    ];
+    for (entry, kind, name, blocks) in files {
+        card.add(File { entry, kind, name, blocks });
+    }
+    for file in &card.files {
+        let places = file.blocks.iter().map(|&block| usize::from(block) * BLOCK);
+        let whole = places.flat_map(|at| &card.bytes[at..at + BLOCK]).copied().collect();
+        assert_eq!(card::read_file(&card.bytes, &file.name), Ok(whole));
+    }
+
+    let missing = Refusal { reason: Reason::NoFile, place: Place::WholeCard };
+    assert_eq!(card::read_file(&card.bytes, b"SETTINGS.BAK"), Err(missing));
+    card.bytes[ROOT] = 0;
+    let unformatted = Refusal { reason: Reason::Format, place: Place::Block(255) };
+    assert_eq!(card::read_file(&card.bytes, NAME), Err(unformatted));
 }
 
 #[test]
