@@ -1,0 +1,87 @@
+#!/usr/bin/env python3
+"""manual.py LIBRARY: compiles the C programs of docs/MANUAL.md with this static library and runs them; its Python program must be
+ctypes_example.py. What they are to answer is said by the models in vectors/. Ends with a line, or with the first difference and
+status 1."""
+import pathlib
+import re
+import subprocess
+import sys
+import tempfile
+
+HERE = pathlib.Path(__file__).resolve().parent
+ROOT = HERE.parent
+sys.path.insert(0, str(HERE / "vectors"))
+import card as card_model  # noqa: E402
+import flash_runs as flash_model  # noqa: E402
+
+GCC = ["gcc", "-std=c99", "-Wall", "-Wextra", "-Wpedantic", "-Werror", f"-I{ROOT / 'include'}"]
+MANUAL = (ROOT / "docs/MANUAL.md").read_text(encoding="utf-8")
+
+
+def programs(language):
+    return re.findall(rf"^```{language}\n(.*?)^```$", MANUAL, re.M | re.S)
+
+
+def compiled(text, source, library):
+    source.write_text(text, encoding="utf-8")
+    program = source.with_suffix("")
+    subprocess.run([*GCC, source, library, "-o", program], check=True)
+    return program
+
+
+def expect(program, arguments, status, text):
+    answer = subprocess.run([program, *arguments], capture_output=True, text=True, timeout=60)
+    got = (answer.returncode, answer.stdout)
+    if got != (status, text):
+        sys.exit(f"{program.name} {arguments}: expected {(status, text)}, and the program gave {got}")
+
+
+def try_partition(program, folder):
+    """The page that is there has its first byte changed; a blank partition gets a page; one without its last byte is refused."""
+    blank = flash_model.formatted(32768, 3)
+    sample = (ROOT / "samples/partition3.bin").read_bytes()
+    image, out = folder / "partition.bin", folder / "partition.out"
+    for before in (sample, blank):
+        image.write_bytes(before)
+        expect(program, [image, out], 0, "saved\n")
+        seen = flash_model.contents(before, 24)
+        expected = bytearray(before)
+        assert flash_model.save(expected, 3, 24, seen, b"\x5a" + (seen or bytes(60))[1:]) == 0
+        assert out.read_bytes() == expected, "the image that the example left is another one"
+    image.write_bytes(blank[:-1])
+    expect(program, [image, out], 1, "read refused 1: the image length is not one of the three\n")
+
+
+def try_card(program, folder):
+    """A file of two blocks is copied; a name that is not there is refused, and a card whose chain is broken."""
+    directory = [card_model.TWO_BLOCKS, card_model.B]
+    blocks = bytes(range(256)) * 2, bytes(range(255, -1, -1)) * 2
+    card = bytearray(card_model.card_with(card_model.table_with([199, 7], [198]), directory, card_model.right_root()))
+    for number, contents in zip((199, 7), blocks):
+        card[number * 512 : number * 512 + 512] = contents
+    image, out = folder / "card.bin", folder / "card.out"
+    listing = f"{'A' * 12} 2\n{'B' * 12} 1\n"
+
+    image.write_bytes(card)
+    expect(program, [image, "A" * 12, out], 0, listing + "copied 2 blocks\n")
+    assert out.read_bytes() == b"".join(blocks), "the file that the example copied is another one"
+    missing = "refused 31: no file of that name, or no used entry from there on\n"
+    expect(program, [image, "C" * 12, out], 1, listing + missing)
+    card[254 * 512 + 2 * 7] = 0xFC
+    image.write_bytes(card)
+    expect(program, [image, "A" * 12, out], 1, "refused 27 at directory entry 0: bad chain\n")
+
+
+def main(library):
+    partition, card = programs("c")
+    (python,) = programs("python")
+    assert python == (HERE / "ctypes_example.py").read_text(encoding="utf-8"), "the manual's Python program is another one"
+    with tempfile.TemporaryDirectory() as name:
+        folder = pathlib.Path(name)
+        try_partition(compiled(partition, folder / "partition.c", library), folder)
+        try_card(compiled(card, folder / "card.c", library), folder)
+    print("manual: its programs run as expected")
+
+
+if __name__ == "__main__":
+    main(sys.argv[1])
