@@ -1,4 +1,4 @@
-"""Writes the lines that crates/checksum_vectors must print. The checksums are those of Python's own CRC, and no
+"""Writes the lines that crates/test_checksum_vectors must print. The checksums are those of Python's own CRC, and no
 translation of the routine in crates/checksum."""
 import binascii
 

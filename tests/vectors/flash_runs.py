@@ -1,4 +1,4 @@
-"""Prints the lines that a program must print, by its argument: with `runs` those of crates/flash_runs, and so on. They come
+"""Prints the lines that a program must print, by its argument: with `runs` those of crates/test_flash_runs, and so on. They come
 from a model of a flash partition written from document 01 alone: an image is a bytearray, block checksums are Python's
 own CRC, and the sums of whole images are zlib's Adler-32."""
 import binascii

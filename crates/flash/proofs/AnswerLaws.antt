@@ -19,11 +19,11 @@ use Rattle.flash_model.specs.Demands.{namedBy}
 use Rattle.flash_model.proofs.SoundLaws.{unrefused-sound}
 use Rattle.flash_model.proofs.CodeLaws.{read-rows}
 use Rattle.flash_model.proofs.Demand2Laws.{refused-first}
-use Rattle.partition.specs.Usable.{Usable}
-use Rattle.partition.specs.Opening.{logOf, openingOf}
-use Rattle.partition.specs.declared.opening.Log.{Log}
-use Rattle.partition.specs.declared.opening.Opened.the-variants as opening
-use Rattle.pages.specs.Rows.{orBuffer, readBuffer}
+use Rattle.flash_partition.specs.Usable.{Usable}
+use Rattle.flash_partition.specs.Opening.{logOf, openingOf}
+use Rattle.flash_partition.specs.declared.opening.Log.{Log}
+use Rattle.flash_partition.specs.declared.opening.Opened.the-variants as opening
+use Rattle.flash_pages.specs.Rows.{orBuffer, readBuffer}
 use Rattle.flash.specs.Answers.{numbered, listed, nextAnswer, countsOf, nextOf}
 use Rattle.flash.specs.declared.Counts.{Counts}
 use Rattle.flash.specs.declared.Summary.the-variants as summaries

@@ -7,10 +7,10 @@ use native.Mathlib.Omega.{arith}
 use lib.ListN.{length, getD}
 use Rattle.flash_model.specs.Measures.{capacity}
 use Rattle.flash_model.specs.Partition.{version, live}
-use Rattle.partition.specs.Usable.{Usable}
-use Rattle.partition.specs.declared.opening.Log.{Log}
-use Rattle.listing.specs.Listing.{asNext}
-use Rattle.listing.specs.declared.Next.the-variants as nexts
+use Rattle.flash_partition.specs.Usable.{Usable}
+use Rattle.flash_partition.specs.declared.opening.Log.{Log}
+use Rattle.flash_listing.specs.Listing.{asNext}
+use Rattle.flash_listing.specs.declared.Next.the-variants as nexts
 use Rattle.flash.specs.Answers.{countsOf, nextOf}
 use Rattle.flash.specs.declared.Counts.{Counts}
 use Rattle.flash.specs.declared.LiveNumber.the-variants as liveNumbers

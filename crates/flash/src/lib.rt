@@ -4,8 +4,8 @@
 // No call asks anything of what it is lent.
 mod steps;
 
-use partition::opening::Opened;
-use partition::opening::open;
+use flash_partition::opening::Opened;
+use flash_partition::opening::open;
 ghost use mathlib.Core.List.{[], _∷_};
 ghost use Rattle.flash_model.specs.Calls.{Answered, Call.onPage, Call.onWhole, PageCall.read, PageCall.save, WholeCall.check, WholeCall.report, WholeCall.nextLive, WholeCall.erase};
 ghost use Rattle.flash.specs.Answers.{numbered, listed, nextAnswer};
@@ -64,7 +64,7 @@ pub fn read(image: &[u8], partition: u8, number: usize, page: &mut [u8]) -> u8
 {
     match open(image, partition) {
         Opened::Refused(refused) => refused,
-        Opened::Open(log) => pages::read_page(image, log, number, page),
+        Opened::Open(log) => flash_pages::read_page(image, log, number, page),
     }
 }
 
@@ -74,7 +74,7 @@ pub fn save(image: &mut [u8], partition: u8, number: usize, expected: &[u8], pag
 {
     match open(&image[..], partition) {
         Opened::Refused(refused) => refused,
-        Opened::Open(log) => pages::save_page(image, log, number, expected, page),
+        Opened::Open(log) => flash_pages::save_page(image, log, number, expected, page),
     }
 }
 
@@ -85,7 +85,7 @@ pub fn erase(image: &mut [u8], partition: u8) -> u8
     match open(&image[..], partition) {
         Opened::Refused(refused) => refused,
         Opened::Open(log) => {
-            compaction::erase(image, log);
+            flash_compaction::erase(image, log);
             0
         }
     }

@@ -1,18 +1,18 @@
 // What report and next-live answer on a partition that refusals 1 to 5 don't apply to.
 use crate::Counts;
 use crate::LiveNumber;
-use listing::Next;
-use partition::opening::Log;
+use flash_listing::Next;
+use flash_partition::opening::Log;
 ghost use mathlib.Core.Path.{_≡_};
 ghost use Rattle.flash_model.specs.Partition.{lowestLive};
-ghost use Rattle.partition.specs.Usable.{Usable};
+ghost use Rattle.flash_partition.specs.Usable.{Usable};
 ghost use Rattle.flash.specs.Answers.{countsOf, nextOf};
 
 pub(crate) fn count_blocks(image: &[u8], log: Log) -> Counts
     requires { ⌜ Usable (now image) log ⌝ }
     ensures { λ r. ⌜ r ≡ countsOf (now (image .entry)) ⌝ }
 {
-    let live = listing::count_live(image, log);
+    let live = flash_listing::count_live(image, log);
     Counts {
         version: image[17],
         capacity: log.m.capacity(),
@@ -25,7 +25,7 @@ pub(crate) fn next_from(image: &[u8], log: Log, from: usize) -> LiveNumber
     requires { ⌜ Usable (now image) log ⌝ }
     ensures { λ r. ⌜ r ≡ nextOf (lowestLive (now (image .entry)) from) ⌝ }
 {
-    match listing::next_number(image, log, from) {
+    match flash_listing::next_number(image, log, from) {
         Next::Number(n) => LiveNumber::Number(n),
         Next::Nothing => LiveNumber::Refused(7),
     }

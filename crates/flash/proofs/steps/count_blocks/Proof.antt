@@ -1,6 +1,6 @@
 -- `steps::count_blocks` meets its contract. Assumes nothing.
 use native.Mathlib.Omega.{arith}
-use Rattle.partition.proofs.UsableLaws.{usable-legal, usable-measured}
+use Rattle.flash_partition.proofs.UsableLaws.{usable-legal, usable-measured}
 use Rattle.flash.proofs.CountLaws.{counts-are}
 use borrow.Author.Needs.{needs}
 use Rattle.flash.proofs.steps.count_blocks.Statement.{statement}

@@ -1,0 +1,87 @@
+-- `flash_compaction::compact` meets its contract. Assumes nothing.
+use Prim.Native.Nat.{_≤_, _<_}
+use mathlib.Core.Path.{refl, _∙_}
+use native.Mathlib.Omega.{arith}
+use lib.ListN.{length-set}
+use Rattle.flash_model.specs.Measures.{capacity}
+use Rattle.flash_model.proofs.MeasureLaws.{capacity-most}
+use Rattle.flash_partition.proofs.UsableLaws.{usable-legal, usable-has, usable-measured}
+use Rattle.flash_listing.proofs.AreaLaws.{blankArea, new-area}
+use Rattle.flash_compaction.proofs.CompactionLaws.{others-high, compact-is, number-low}
+use borrow.Author.Needs.{needs}
+use Rattle.flash_compaction.proofs.compact.Statement.{statement}
+use Rattle.flash_compaction.proofs.compact.Tie as tie
+
+-- the saved number has its place in the area
+inside : (a : tie.Start) → a .args .number < 1021
+inside a =
+    let s = a .args .log .m .size in
+    omega (arith, number-low (a .pre .0) (a .args .number) (a .pre .1 .0), capacity-most s (usable-legal (a .pre .0)))
+
+-- there is room for its block
+room : (k : tie.After-keep-contents) → k .keep-contents .result ≤ capacity (k .before .before .before .before .before .args .log .m .size)
+room k =
+    let a = k .before .before .before .before .before in
+    others-high (a .pre .0) blankArea new-area _ (k .keep-contents .result) (a .args .number) (a .args .page .now) (a .pre .1 .0) (a .pre .1 .1) (inside a)
+    _ (k .keep-contents .ensures) refl
+
+array-write-area : tie.Need-array-write-area
+array-write-area c = inside (c .before .before)
+
+slice-aggregate-keep-contents : tie.Need-slice-aggregate-keep-contents
+slice-aggregate-keep-contents c = search needs
+
+keep-contents-requires : tie.Need-keep-contents-requires
+keep-contents-requires c κs =
+    let a = c .before .before .before .before in
+    (a .pre .0, simp length-set (capacity-most (a .args .log .m .size) (usable-legal (a .pre .0))))
+
+put-block-requires : tie.Need-put-block-requires
+put-block-requires c κs =
+    let k = c .before .before .before .before in
+    let a = k .before .before .before .before .before in
+    let o = usable-has (a .pre .0) in (
+      record { has-size = k .keep-contents .kept .0 ∙ o .has-size; is-legal = o .is-legal },
+      (omega (arith, room k, k .keep-contents .ensures .next-is), a .pre .1 .1, omega (arith, inside a)),
+    )
+
+add-finish : tie.Need-add-finish
+add-finish c =
+    let k = c .before .before .before .before .before .before .before .before in
+    let a = k .before .before .before .before .before in
+    omega (arith, room k, usable-measured (a .pre .0) .two-bytes)
+
+finish-requires : tie.Need-finish-requires
+finish-requires c κs =
+    let p = c .before .before .before in
+    let k = p .before .before .before .before .before in
+    let a = k .before .before .before .before .before in
+    let o = usable-has (a .pre .0) in (
+      record { has-size = p .put-block .kept .0 ∙ k .keep-contents .kept .0 ∙ o .has-size; is-legal = o .is-legal },
+      (omega arith, omega (arith, room k)),
+    )
+
+same-length : tie.Need-same-length
+same-length c = search needs
+
+returns : tie.Need-returns
+returns c =
+    let p = c .before .before .before .before .before .before in
+    let k = p .before .before .before .before .before in
+    let a = k .before .before .before .before .before in
+    c .before .before .finish .ensures
+    ∙ compact-is (a .pre .0) blankArea new-area _ (k .keep-contents .result) (a .args .number) (a .args .page .now) (a .pre .1 .0) (a .pre .1 .1) (inside a)
+    _ (k .keep-contents .ensures) refl _ (p .put-block .ensures)
+
+pub compact-spec : {M : Type 1} → statement M
+compact-spec =
+    tie.close
+    (tie.spec
+    array-write-area
+    slice-aggregate-keep-contents
+    keep-contents-requires
+    put-block-requires
+    add-finish
+    finish-requires
+    same-length
+    returns)

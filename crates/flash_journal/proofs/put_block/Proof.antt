@@ -1,0 +1,58 @@
+-- `flash_journal::put_block` meets its contract. Assumes nothing.
+use mathlib.Core.Path.{ap, _∙_}
+use Rattle.flash_model.specs.Update.{withBlock}
+use Rattle.flash_measures.proofs.WithinLaws.{within}
+use Rattle.flash_journal.proofs.PartLaws.{put-block}
+use borrow.Author.Needs.{needs}
+use Rattle.flash_journal.proofs.put_block.Statement.{statement}
+use Rattle.flash_journal.proofs.put_block.Tie as tie
+
+start-requires : tie.Need-start-requires
+start-requires c κs =
+    let a = c .before .before in
+    let w = within (a .args .k) (a .pre .0) (a .pre .1 .0) in
+    search needs
+
+add-end : tie.Need-add-end
+add-end c =
+    let a = c .before .before .before in
+    let w = within (a .args .k) (a .pre .0) (a .pre .1 .0) in
+    search needs
+
+sub-write-block : tie.Need-sub-write-block
+sub-write-block c = search needs
+
+part-write-block-start : tie.Need-part-write-block-start
+part-write-block-start c = search needs
+
+part-write-block-end : tie.Need-part-write-block-end
+part-write-block-end c =
+    let a = c .before .before .before in
+    let w = within (a .args .k) (a .pre .0) (a .pre .1 .0) in
+    search needs
+
+write-block-requires : tie.Need-write-block-requires
+write-block-requires c κs = search needs
+
+same-length : tie.Need-same-length
+same-length c = search needs
+
+returns : tie.Need-returns
+returns c =
+    let a = c .before .before .before .before .before .before .before in
+    let w = c .before .before .write-block in
+    rw (c .before .before .before .before .start .ensures)
+    (put-block (a .args .image .now) (w .last .0) (a .args .k) ∙ ap (withBlock (a .args .image .now) (a .args .k)) (w .ensures))
+
+pub put-block-spec : {M : Type 1} → statement M
+put-block-spec =
+    tie.close
+    (tie.spec
+    start-requires
+    add-end
+    sub-write-block
+    part-write-block-start
+    part-write-block-end
+    write-block-requires
+    same-length
+    returns)

@@ -1,0 +1,39 @@
+-- `flash_listing::enter` meets its contract. Assumes nothing.
+use mathlib.Core.Path.{_≡_, sym, _∙_}
+use mathlib.Core.Bool.{true, false}
+use mathlib.Core.Logic.{⊎-elim}
+use native.Mathlib.Omega.{arith}
+use Rattle.flash_model.specs.UserBlock.{number}
+use Rattle.flash_partition.proofs.PartLaws.{number-is}
+use Rattle.flash_listing.proofs.MarkLaws.{mark-is}
+use borrow.Author.Needs.{needs}
+use Rattle.flash_listing.proofs.enter.Statement.{statement}
+use Rattle.flash_listing.proofs.enter.Tie as tie
+
+-- the word that the mark goes to
+place-is : (w : tie.After-word) → number (w .before .before .before .before .before .args .part .now) ≡ w .word .result
+place-is w = number-is (w .before .before .before .before .before .args .part .now) ∙ sym (w .word .ensures .0)
+
+right-checksum-requires : tie.Need-right-checksum-requires
+right-checksum-requires c κs = search needs
+
+word-requires : tie.Need-word-requires
+word-requires c κs = search needs
+
+slice-write-area : tie.Need-slice-write-area
+slice-write-area c = omega (arith, place-is c, c .before .before .before .before .before .pre .1)
+
+same-length : tie.Need-same-length
+same-length c = search needs
+
+returns : tie.Need-returns
+returns c =
+    let j = c .before .before in
+    let right = sym (j .before .right-checksum .ensures) in (
+      ⊎-elim (λ w. mark-is _ true _ (right ∙ w .0 .taken) (w .1)) (λ w. mark-is _ false _ (right ∙ w .0 .left) (w .1)) (j .if1 .came),
+      rw (place-is (c .before)),
+    )
+
+pub enter-spec : {M : Type 1} → statement M
+enter-spec =
+    tie.close (tie.spec right-checksum-requires word-requires slice-write-area same-length returns)

@@ -1,0 +1,43 @@
+-- One pass over the used blocks: the blocks of the numbers' contents, and the lowest live number.
+-- Assumes nothing.
+use Prim.Native.Nat.{ℕ}
+use mathlib.Core.Path.{_≡_}
+use mathlib.Core.Bool.{Bool, cond, _&&_}
+use mathlib.Core.List.{List}
+use mathlib.Core.Option.{Option, none, some}
+use lib.Dec.{eqb, ltb, leb}
+use lib.ListN.{getD}
+use Rattle.words.specs.Lists.{keep, numbersFrom}
+use Rattle.flash_model.specs.UserBlock.{number, rightChecksum}
+use Rattle.flash_model.specs.Partition.{blockAt}
+use Rattle.flash_model.specs.Update.{isHolder}
+use Rattle.flash_listing.specs.declared.Next.{Next}
+use Rattle.flash_listing.specs.declared.Next.the-variants.{Number, Nothing}
+
+-- An area in which no number has a mark. A mark is 1, and 0 where there is none.
+abbrev pub Blank : List ℕ → Type 0
+Blank area = (n : ℕ) → getD area n 0 ≡ 0
+
+-- The block's number is below the end and has no mark.
+unfoldable pub isNew : ℕ → List ℕ → List ℕ → Bool
+isNew end block area = ltb (number block) end && eqb (getD area (number block) 0) 0
+
+-- The mark that a block's number gets.
+unfoldable pub mark : List ℕ → ℕ
+mark block = cond (rightChecksum block) 1 0
+
+-- Block k holds the contents of its number, and the area has no mark for that.
+unfoldable pub isKept : List ℕ → List ℕ → ℕ → Bool
+isKept area image k = isHolder image k && eqb (getD area (number (blockAt image k)) 0) 0
+
+-- Those of the used blocks, in rising order.
+unfoldable pub keptBlocks : List ℕ → List ℕ → ℕ → List ℕ
+keptBlocks area image used = keep (isKept area image) (numbersFrom 1 used)
+
+-- The block's number, if it is lower than the best so far, not below the start, and the checksum is right.
+unfoldable pub lowered : ℕ → List ℕ → ℕ → ℕ
+lowered start block best = cond (leb start (number block) && (ltb (number block) best && rightChecksum block)) (number block) best
+
+abbrev pub asNext : Option ℕ → Next
+asNext none = Nothing
+asNext (some n) = Number n

@@ -1,0 +1,99 @@
+-- `flash_pages::changed` meets its contract: each `return` is a case of row 9. Assumes nothing.
+use Prim.Native.Nat.{ℕ}
+use mathlib.Core.Path.{sym, ap, _∙_}
+use mathlib.Core.Bool.{true, false}
+use mathlib.Core.List.{List}
+use Rattle.words.specs.Words.{sameBytes}
+use Rattle.flash_partition.proofs.UsableLaws.{usable-has}
+use Rattle.flash_pages.proofs.ReadLaws.{found-high, payload-part}
+use Rattle.flash_pages.proofs.StoreRules.{nothing-there, page-there, nothing-left, compared}
+use borrow.Author.Needs.{needs}
+use Rattle.flash_pages.proofs.changed.Statement.{statement}
+use Rattle.flash_pages.proofs.changed.Tie as tie
+
+find-requires : tie.Need-find-requires
+find-requires c κs = search needs
+
+enum-told : tie.Need-enum-told
+enum-told c = search needs
+
+enum-told-2 : tie.Need-enum-told-2
+enum-told-2 c = search needs
+
+returns : tie.Need-returns
+returns c =
+    let a = c .before .before .before .before .before .before in
+    let u = a .pre .0 in
+    page-there u (a .args .number) (a .args .expected .now) (c .before .before .if1 .taken) _ (sym (c .before .before .before .find .ensures) ∙ c .enum-told2 .given .1)
+
+returns-2 : tie.Need-returns-2
+returns-2 c =
+    let a = c .before .before .before .before .before .before in
+    let u = a .pre .0 in
+    nothing-there u (a .args .number) (a .args .expected .now) (c .before .before .if1 .taken) (sym (c .before .before .before .find .ensures) ∙ c .enum-told .given .1)
+
+enum-known-found : tie.Need-enum-known-found
+enum-known-found c = search needs
+
+enum-told-3 : tie.Need-enum-told-3
+enum-told-3 c = search needs
+
+returns-3 : tie.Need-returns-3
+returns-3 c =
+    let a = c .before .before .before .before .before .before in
+    let u = a .pre .0 in
+    nothing-left u (a .args .number) (a .args .expected .now) (c .before .before .if1 .left) (sym (c .before .before .before .find .ensures) ∙ c .enum-told3 .given .1)
+
+part-from-requires : tie.Need-part-from-requires
+part-from-requires c κs =
+    let a = c .before .before .before .before .before .before .before in
+    let u = a .pre .0 in
+    (usable-has u, found-high u (a .args .number) _ (sym (c .before .before .before .before .find .ensures) ∙ c .before .found .given .1))
+
+sub-same : tie.Need-sub-same
+sub-same c = search needs
+
+part-same-start : tie.Need-part-same-start
+part-same-start c = search needs
+
+part-same-end : tie.Need-part-same-end
+part-same-end c = search needs
+
+same-requires : tie.Need-same-requires
+same-requires c κs = search needs
+
+returns-4 : tie.Need-returns-4
+returns-4 c =
+    let a = c .before .before .before .before .before .before .before .before .before .before .before in
+    let u = a .pre .0 in
+    let part = c .before .before .before .part-from in
+    compared u (a .args .number) (a .args .expected .now) _ (sym (c .before .before .before .before .before .before .before .before .find .ensures) ∙ c .before .before .before .before .before .found .given .1) true
+    (sym (c .if2 .taken) ∙ c .before .same .ensures ∙ ap (λ (l : List ℕ). sameBytes l (a .args .expected .now)) (payload-part (part .result .now) _ (part .ensures .0)))
+
+returns-5 : tie.Need-returns-5
+returns-5 c =
+    let a = c .before .before .before .before .before .before .before .before .before .before .before in
+    let u = a .pre .0 in
+    let part = c .before .before .before .part-from in
+    compared u (a .args .number) (a .args .expected .now) _ (sym (c .before .before .before .before .before .before .before .before .find .ensures) ∙ c .before .before .before .before .before .found .given .1) false
+    (sym (c .if2 .left) ∙ c .before .same .ensures ∙ ap (λ (l : List ℕ). sameBytes l (a .args .expected .now)) (payload-part (part .result .now) _ (part .ensures .0)))
+
+pub changed-spec : {M : Type 1} → statement M
+changed-spec =
+    tie.close
+    (tie.spec
+    find-requires
+    enum-told
+    enum-told-2
+    returns
+    returns-2
+    enum-known-found
+    enum-told-3
+    returns-3
+    part-from-requires
+    sub-same
+    part-same-start
+    part-same-end
+    same-requires
+    returns-4
+    returns-5)

@@ -1,0 +1,44 @@
+-- The search for a number's contents: where it begins, what it passes, what it finds and how it ends. Assumes nothing.
+use Prim.Native.Nat.{ℕ, _-_, _≤_, _<_}
+use mathlib.Core.Path.{_≡_, sym, ap}
+use mathlib.Core.Bool.{Bool, true, false, _&&_}
+use mathlib.Core.List.{List}
+use lib.Dec.{eqb}
+use Rattle.words.specs.Words.{word}
+use Rattle.words.proofs.LoopLaws.{highest-here, highest-next, highest-end}
+use Rattle.flash_model.specs.Measures.{legalNumber}
+use Rattle.flash_model.specs.UserBlock.{number, rightChecksum}
+use Rattle.flash_model.specs.Partition.{blockAt, copyAt, holder}
+use Rattle.flash_bitmap.specs.Found.{asFound}
+use Rattle.flash_bitmap.specs.declared.Found.the-variants.{At, Nothing}
+use Rattle.flash_partition.specs.Usable.{Usable}
+use Rattle.flash_partition.specs.declared.opening.Log.{Log}
+use Rattle.flash_partition.specs.Search.{foundUpTo}
+use Rattle.flash_partition.proofs.PartLaws.{number-is}
+use Rattle.flash_partition.proofs.UsableLaws.{holder-some}
+
+pub from-used : {image : List ℕ} {log : Log} → Usable image log → (n : ℕ) → legalNumber (log .m .size) n ≡ true
+    → asFound (holder image n) ≡ foundUpTo image n (log .used)
+unfolding foundUpTo
+from-used u n legal = ap asFound (holder-some u n legal)
+
+module _ (image : List ℕ) (n k : ℕ) where
+  pub found-here : 0 < k → copyAt image n k ≡ true → foundUpTo image n k ≡ At k
+  unfolding foundUpTo
+  found-here h e = ap asFound (highest-here (copyAt image n) k h e)
+
+  pub passed : 0 < k → copyAt image n k ≡ false → foundUpTo image n k ≡ foundUpTo image n (k - 1)
+  unfolding foundUpTo
+  passed h e = ap asFound (highest-next (copyAt image n) k h e)
+
+  pub has-number-test : (part : List ℕ) → part ≡ blockAt image k → (w : ℕ) → w ≡ word part 0 → {t : Bool} → eqb w n ≡ t
+      → eqb (number (blockAt image k)) n ≡ t
+  has-number-test part p w e {t} f = rw (sym p, number-is part, sym e) f
+
+  -- a block is passed for its number alone
+  pub other-number : (part : List ℕ) → part ≡ blockAt image k → (w : ℕ) → w ≡ word part 0 → eqb w n ≡ false → copyAt image n k ≡ false
+  other-number part p w e f = ap (λ (b : Bool). b && rightChecksum (blockAt image k)) (has-number-test part p w e f)
+
+  pub none-left : k ≤ 0 → foundUpTo image n k ≡ Nothing
+  unfolding foundUpTo
+  none-left h = ap asFound (highest-end (copyAt image n) k h)

@@ -1,0 +1,47 @@
+-- `blocks::pass_eights` meets its contract. The loop's invariant: the blocks above k are passed. Assumes nothing.
+use Prim.Native.Nat.{_≤_}
+use mathlib.Core.Path.{_≡_, refl, _∙_}
+use native.Mathlib.Omega.{arith}
+use Rattle.flash_partition.specs.Search.{foundUpTo}
+use borrow.Author.Needs.{needs}
+use Rattle.flash_partition.proofs.blocks.pass_eights.Statement.{statement}
+use Rattle.flash_partition.proofs.blocks.pass_eights.Tie as tie
+
+abbrev Inv-loop : tie.InvT-loop
+Inv-loop image m top number k₀ k = (k ≤ top) × (foundUpTo image number top ≡ foundUpTo image number k)
+
+abbrev μ-loop : tie.MeasureT-loop
+μ-loop image m top number k₀ k = k
+
+loop-holds : tie.Need-loop-holds Inv-loop μ-loop
+loop-holds c = (omega arith, refl)
+
+any-of-eight-requires : tie.Need-any-of-eight-requires Inv-loop μ-loop
+any-of-eight-requires c κs = search needs
+
+returns : tie.Need-returns Inv-loop μ-loop
+returns c = c .before .before .before .loop .inv
+
+loop-less : tie.Need-loop-less Inv-loop μ-loop
+loop-less c = search needs
+
+loop-again : tie.Need-loop-again Inv-loop μ-loop
+loop-again c =
+    let l = c .before .before .before .loop in
+    (omega arith, l .inv .1 ∙ c .before .any-of-eight .ensures (c .if1 .left))
+
+returns-2 : tie.Need-returns-2 Inv-loop μ-loop
+returns-2 c = c .before .loop .inv
+
+pub pass-eights-spec : {M : Type 1} → statement M
+pass-eights-spec =
+    tie.close
+    (tie.spec
+    Inv-loop
+    μ-loop
+    loop-holds
+    any-of-eight-requires
+    returns
+    loop-less
+    loop-again
+    returns-2)
