@@ -11,9 +11,9 @@ use lib.Dec.{lit<, lit≤}
 use lib.Bits.{bitXor, xor-lt, xor-zero-r}
 use lib.ListN.{length, getD, drop, drop-of-length-le}
 use lib.Seq.{drop-cons}
-use Rattle.loads.specs.BigEndian.{Word}
-use Rattle.loads.specs.LittleEndian.{Little}
-use Rattle.loads.proofs.LittleLaws.{little-lt as word-below}
+use Rattle.words.specs.BigEndian.{Big}
+use Rattle.words.specs.LittleEndian.{Little}
+use Rattle.words.proofs.LittleLaws.{little-lt as word-below}
 use Rattle.checksum.specs.Crc.{shift, shifts, takes, crcFrom, checksumOf}
 use Rattle.checksum.specs.Polynomial.{rem, remLittle}
 use Rattle.checksum.proofs.XorLaws.{xor-assoc, xor-ones}
@@ -58,7 +58,7 @@ behind-last n r w h =
     ∙ ap₂ bitXor (sym (shifts-add 8 k r) ∙ ap (λ (x : ℕ). shifts x r) width) (all ∙ ap (λ (x : ℕ). rem x w) width')
 
 -- to take the n bytes of a word into 16 shifts of r is to put its digits behind r
-crc-word : (n : ℕ) {s : List ℕ} {at w : ℕ} (r : ℕ) → r < 65536 → Word n s at w → at + n ≤ length s
+crc-word : (n : ℕ) {s : List ℕ} {at w : ℕ} (r : ℕ) → r < 65536 → Big n s at w → at + n ≤ length s
     → crcFrom (shifts 16 r) (drop at s) ≡ crcFrom (shifts 16 (bitXor (shifts (n * 8) r) (rem (n * 8) w))) (drop (at + n) s)
 unfolding rem shifts
 crc-word zero {s} {at} {w} r h known long =
@@ -99,7 +99,7 @@ crc-little (suc n) {s} {at} {w} r h known long =
     ∙ ap₂ (λ (v i : ℕ). crcFrom (shifts 16 v) (drop i s)) (behind-first n r b (w / 256) h hb) next
 
 -- a word behind the polynomial a of 64 digits, which a fold has made f
-pub crc-fold : (s : List ℕ) (i a f w : ℕ) → rem 64 f ≡ shifts 64 (rem 64 a) → Word 8 s i w → i + 8 ≤ length s
+pub crc-fold : (s : List ℕ) (i a f w : ℕ) → rem 64 f ≡ shifts 64 (rem 64 a) → Big 8 s i w → i + 8 ≤ length s
     → crcFrom (shifts 16 (rem 64 a)) (drop i s) ≡ crcFrom (shifts 16 (rem 64 (bitXor f w))) (drop (i + 8) s)
 crc-fold s i a f w folded known long =
     crc-word 8 (rem 64 a) (rem-lt 64 a) known long

@@ -9,7 +9,7 @@ use native.Mathlib.Omega.{arith}
 use lib.Dec.{lit<}
 use lib.Bits.{bitXor, xor-lt, xor-mod, xor-zero-r}
 use lib.ListN.{length, drop}
-use Rattle.loads.specs.LittleEndian.{Little}
+use Rattle.words.specs.LittleEndian.{Little}
 use Rattle.checksum.specs.Crc.{shift, shifts, crcFrom}
 use Rattle.checksum.specs.Polynomial.{rem, remLittle, remTwo, remThree, remFour}
 use Rattle.checksum.proofs.XorLaws.{xor-shl}

@@ -9,7 +9,7 @@ use native.Mathlib.Omega.{arith}
 use lib.Dec.{lit<, lit≤}
 use lib.Bits.{bitXor, xor-lt, xor-shr, xor-mod, xor-zero-r}
 use lib.Pow.{pow-pos, shl-shr, shr-lt, shl-exact, mod-pow-add}
-use Rattle.loads.proofs.WordLaws.{pow-next}
+use Rattle.words.proofs.BigLaws.{pow-next}
 use Rattle.checksum.specs.Crc.{shifts}
 use Rattle.checksum.specs.Polynomial.{rem, remLittle}
 use Rattle.checksum.proofs.XorLaws.{xor-assoc}

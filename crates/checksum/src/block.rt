@@ -3,8 +3,8 @@
 // comes back in three places, and no step waits long for the one before.
 use crate::folding::fold64;
 use crate::folding::remainder;
-use loads::little6_of8;
-use loads::little8;
+use words::loads::little6_of8;
+use words::loads::little8;
 ghost use mathlib.Core.Path.{_≡_};
 ghost use lib.ListN.{length};
 ghost use lib.Bits.{bitXor};

@@ -9,7 +9,7 @@ use crate::bytewise::rest;
 use crate::folding::fold16;
 use crate::folding::fold64;
 use crate::folding::remainder;
-use loads::word8;
+use words::loads::big8;
 ghost use mathlib.Core.Path.{_≡_};
 ghost use Rattle.checksum.specs.Crc.{crcFrom, checksumOf};
 
@@ -20,7 +20,7 @@ fn of_words(bytes: &[u8]) -> u16
     let mut a: u64 = 33999;
     let mut i: usize = 0;
     while 8 <= bytes.len() - i {
-        a = fold64(a) ^ word8(bytes, i);
+        a = fold64(a) ^ big8(bytes, i);
         i += 8;
     }
     rest(bytes, i, fold16(remainder(a)))

@@ -5,8 +5,8 @@ use mathlib.Core.List.{List}
 use native.Mathlib.Omega.{arith}
 use native.Mathlib.Decide.{decLe}
 use lib.ListN.{getD}
-use Rattle.loads.specs.LittleEndian.{Little, repeated}
-use Rattle.loads.proofs.LittleLaws.{little-repeated}
+use Rattle.words.specs.LittleEndian.{Little, repeated}
+use Rattle.words.proofs.LittleLaws.{little-repeated}
 use Rattle.flash_bitmap.specs.Run.{Run}
 
 module _ (s : List ℕ) (byte from end : ℕ) where

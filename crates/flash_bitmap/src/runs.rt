@@ -13,7 +13,7 @@ pub fn run_end(s: &[u8], at: usize, end: usize, byte: u8) -> usize
 {
     let word = byte as u64 * ONES;
     let mut i = at;
-    while 8 <= end - i && loads::little8(s, i) == word {
+    while 8 <= end - i && words::loads::little8(s, i) == word {
         i += 8;
     }
     while i < end && s[i] == byte {

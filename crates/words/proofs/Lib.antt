@@ -6,3 +6,5 @@ pub mod Distinct
 pub mod LoopLaws
 pub mod JoinLaws
 pub mod PartsLaws
+pub mod BigLaws
+pub mod LittleLaws

@@ -1,3 +1,5 @@
 pub mod Lists
 pub mod Search
 pub mod Words
+pub mod BigEndian
+pub mod LittleEndian

@@ -1,4 +1,6 @@
 // Runs of bytes and two-byte numbers. The definitions and laws in specs/ and proofs/ serve every format.
+pub mod loads;
+
 ghost use mathlib.Core.Path.{_≡_};
 ghost use Prim.Native.Nat.{_+_, _<_};
 ghost use lib.ListN.{length, replicate};

@@ -27,8 +27,8 @@ sub-loop c = search needs
 fold64-requires : tie.Need-fold64-requires Inv-loop μ-loop
 fold64-requires c κs = search needs
 
-word8-requires : tie.Need-word8-requires Inv-loop μ-loop
-word8-requires c κs = search needs
+big8-requires : tie.Need-big8-requires Inv-loop μ-loop
+big8-requires c κs = search needs
 
 add-i : tie.Need-add-i Inv-loop μ-loop
 add-i c = omega arith
@@ -42,7 +42,7 @@ loop-again c =
     let f = c .before .fold64 in
     let s = c .before .before .before .before .before .args .bytes .now in
     let long : l .i + 8 ≤ length s = omega arith in
-    (long, sym (crc-fold s (l .i) (l .a) (f .result) (c .word8 .result) (f .ensures) (c .word8 .ensures) long) ∙ l .inv .1)
+    (long, sym (crc-fold s (l .i) (l .a) (f .result) (c .big8 .result) (f .ensures) (c .big8 .ensures) long) ∙ l .inv .1)
 
 remainder-requires : tie.Need-remainder-requires Inv-loop μ-loop
 remainder-requires c κs = search needs
@@ -70,7 +70,7 @@ of-words-spec =
     loop-holds
     sub-loop
     fold64-requires
-    word8-requires
+    big8-requires
     add-i
     loop-less
     loop-again

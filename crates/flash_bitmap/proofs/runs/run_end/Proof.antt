@@ -4,7 +4,7 @@ use Prim.Native.Nat.{_-_}
 use mathlib.Core.Path.{_≡_, _∙_}
 use native.Mathlib.Omega.{arith}
 use borrow.Author.Tests.{eqb-true}
-use Rattle.loads.specs.LittleEndian.{repeated}
+use Rattle.words.specs.LittleEndian.{repeated}
 use Rattle.flash_bitmap.specs.Run.{Run}
 use Rattle.flash_bitmap.proofs.RunLaws.{run-none, run-byte, run-word}
 use borrow.Author.Needs.{needs}

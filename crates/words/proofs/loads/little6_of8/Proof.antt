@@ -1,9 +1,9 @@
--- `loads::little6_of8` meets its contract.
+-- `words::loads::little6_of8` meets its contract.
 -- Assumes nothing.
 use borrow.Author.Needs.{needs}
-use Rattle.loads.proofs.LittleLaws.{without-two}
-use Rattle.loads.proofs.little6_of8.Statement.{statement}
-use Rattle.loads.proofs.little6_of8.Tie as tie
+use Rattle.words.proofs.LittleLaws.{without-two}
+use Rattle.words.proofs.loads.little6_of8.Statement.{statement}
+use Rattle.words.proofs.loads.little6_of8.Tie as tie
 
 little8-requires : tie.Need-little8-requires
 little8-requires c κs = search needs

@@ -8,8 +8,8 @@ use native.Mathlib.Omega.{arith}
 use lib.Bits.{bitOr, or-shifted-r}
 use lib.ListN.{getD}
 use lib.Pow.{shl-exact}
-use Rattle.loads.specs.LittleEndian.{LittleMade, Little, repeated}
-use Rattle.loads.proofs.WordLaws.{pow-next}
+use Rattle.words.specs.LittleEndian.{LittleMade, Little, repeated}
+use Rattle.words.proofs.BigLaws.{pow-next}
 
 -- a word without its first byte
 rest : {n : ℕ} {s : List ℕ} {at w : ℕ} → Little (suc n) s at w → Little n s (at + 1) (w / 256)

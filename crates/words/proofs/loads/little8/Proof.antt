@@ -1,10 +1,10 @@
--- `loads::little8` meets its contract.
+-- `words::loads::little8` meets its contract.
 -- Assumes nothing.
 use borrow.Author.Needs.{needs}
 use lib.Dec.{lit≤}
-use Rattle.loads.proofs.LittleLaws.{little-join}
-use Rattle.loads.proofs.little8.Statement.{statement}
-use Rattle.loads.proofs.little8.Tie as tie
+use Rattle.words.proofs.LittleLaws.{little-join}
+use Rattle.words.proofs.loads.little8.Statement.{statement}
+use Rattle.words.proofs.loads.little8.Tie as tie
 
 little4-requires : tie.Need-little4-requires
 little4-requires c κs = search needs

@@ -3,11 +3,11 @@
 ghost use mathlib.Core.Path.{_≡_};
 ghost use Prim.Native.Nat.{_+_, _<_, _≤_};
 ghost use lib.ListN.{length};
-ghost use Rattle.loads.specs.BigEndian.{Word};
-ghost use Rattle.loads.specs.LittleEndian.{Little};
+ghost use Rattle.words.specs.BigEndian.{Big};
+ghost use Rattle.words.specs.LittleEndian.{Little};
 
 // A byte as a number of 32 bits, with its bound.
-fn wide(x: u8) -> u32
+fn byte_word(x: u8) -> u32
     ensures { λ r. ⌜ (r ≡ x) × (r < 256) ⌝ }
 {
     x as u32
@@ -21,19 +21,19 @@ fn long(x: u32) -> u64
 }
 
 // The four bytes from a place, big endian.
-fn word4(s: &[u8], at: usize) -> u32
+fn big4(s: &[u8], at: usize) -> u32
     requires { ⌜ at + 4 ≤ length (now s) ⌝ }
-    ensures { λ r. ⌜ Word 4 (now (s .entry)) at r ⌝ }
+    ensures { λ r. ⌜ Big 4 (now (s .entry)) at r ⌝ }
 {
-    (wide(s[at]) << 24) | (wide(s[at + 1]) << 16) | (wide(s[at + 2]) << 8) | wide(s[at + 3])
+    (byte_word(s[at]) << 24) | (byte_word(s[at + 1]) << 16) | (byte_word(s[at + 2]) << 8) | byte_word(s[at + 3])
 }
 
 // The eight bytes from a place, big endian.
-pub fn word8(s: &[u8], at: usize) -> u64
+pub fn big8(s: &[u8], at: usize) -> u64
     requires { ⌜ at + 8 ≤ length (now s) ⌝ }
-    ensures { λ r. ⌜ Word 8 (now (s .entry)) at r ⌝ }
+    ensures { λ r. ⌜ Big 8 (now (s .entry)) at r ⌝ }
 {
-    (long(word4(s, at)) << 32) | long(word4(s, at + 4))
+    (long(big4(s, at)) << 32) | long(big4(s, at + 4))
 }
 
 // The four bytes from a place, little endian.
@@ -41,7 +41,7 @@ fn little4(s: &[u8], at: usize) -> u32
     requires { ⌜ at + 4 ≤ length (now s) ⌝ }
     ensures { λ r. ⌜ Little 4 (now (s .entry)) at r ⌝ }
 {
-    wide(s[at]) | (wide(s[at + 1]) << 8) | (wide(s[at + 2]) << 16) | (wide(s[at + 3]) << 24)
+    byte_word(s[at]) | (byte_word(s[at + 1]) << 8) | (byte_word(s[at + 2]) << 16) | (byte_word(s[at + 3]) << 24)
 }
 
 // The eight bytes from a place, little endian.

@@ -1,2 +1,0 @@
-pub mod BigEndian
-pub mod LittleEndian
