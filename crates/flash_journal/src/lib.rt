@@ -1,6 +1,6 @@
 // The journal that a partition is: one block written behind the used ones, and its bitmap bit cleared.
-use flash_bitmap::clear_bit;
 use checksum::checksum;
+use flash_bitmap::clear_bit;
 use flash_measures::BLOCK;
 use flash_measures::Measures;
 use words::copy_page;

@@ -25,7 +25,10 @@ fn big4(s: &[u8], at: usize) -> u32
     requires { ⌜ at + 4 ≤ length (now s) ⌝ }
     ensures { λ r. ⌜ Big 4 (now (s .entry)) at r ⌝ }
 {
-    (byte_word(s[at]) << 24) | (byte_word(s[at + 1]) << 16) | (byte_word(s[at + 2]) << 8) | byte_word(s[at + 3])
+    (byte_word(s[at]) << 24)
+        | (byte_word(s[at + 1]) << 16)
+        | (byte_word(s[at + 2]) << 8)
+        | byte_word(s[at + 3])
 }
 
 // The eight bytes from a place, big endian.
@@ -41,7 +44,10 @@ fn little4(s: &[u8], at: usize) -> u32
     requires { ⌜ at + 4 ≤ length (now s) ⌝ }
     ensures { λ r. ⌜ Little 4 (now (s .entry)) at r ⌝ }
 {
-    byte_word(s[at]) | (byte_word(s[at + 1]) << 8) | (byte_word(s[at + 2]) << 16) | (byte_word(s[at + 3]) << 24)
+    byte_word(s[at])
+        | (byte_word(s[at + 1]) << 8)
+        | (byte_word(s[at + 2]) << 16)
+        | (byte_word(s[at + 3]) << 24)
 }
 
 // The eight bytes from a place, little endian.

@@ -4,15 +4,9 @@ use borrow.Author.Needs.{needs}
 use Rattle.capi.proofs.galtuyeg_card_check.Statement.{statement}
 use Rattle.capi.proofs.galtuyeg_card_check.Tie as tie
 
-check-requires : tie.Need-check-requires
-check-requires c κs = search needs
-
-card-verdict-requires : tie.Need-card-verdict-requires
-card-verdict-requires c κs = search needs
-
 returns : tie.Need-returns
 unfolding cardCheckOf cardVerdictOf
 returns c = rw (c .card-verdict .ensures, c .before .check .ensures)
 
 pub galtuyeg-card-check-spec : {M : Type 1} → statement M
-galtuyeg-card-check-spec = tie.close (tie.spec check-requires card-verdict-requires returns)
+galtuyeg-card-check-spec = tie.close (tie.spec (λ c κs. search needs) (λ c κs. search needs) returns)

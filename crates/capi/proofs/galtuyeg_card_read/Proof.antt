@@ -5,18 +5,9 @@ use borrow.Author.Needs.{needs}
 use Rattle.capi.proofs.galtuyeg_card_read.Statement.{statement}
 use Rattle.capi.proofs.galtuyeg_card_read.Tie as tie
 
-read-requires : tie.Need-read-requires
-read-requires c κs = search needs
-
-card-verdict-requires : tie.Need-card-verdict-requires
-card-verdict-requires c κs = search needs
-
-same-length : tie.Need-same-length
-same-length c = search needs
-
 returns : tie.Need-returns
 returns c = (c .card-verdict .ensures ∙ ap cardVerdictOf (c .before .before .before .read .ensures .0), c .before .before .before .read .ensures .1)
 
 pub galtuyeg-card-read-spec : {M : Type 1} → statement M
 galtuyeg-card-read-spec =
-    tie.close (tie.spec read-requires card-verdict-requires same-length returns)
+    tie.close (tie.spec (λ c κs. search needs) (λ c κs. search needs) (λ c. search needs) returns)

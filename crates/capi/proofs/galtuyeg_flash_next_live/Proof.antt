@@ -5,15 +5,9 @@ use borrow.Author.Needs.{needs}
 use Rattle.capi.proofs.galtuyeg_flash_next_live.Statement.{statement}
 use Rattle.capi.proofs.galtuyeg_flash_next_live.Tie as tie
 
-next-live-requires : tie.Need-next-live-requires
-next-live-requires c κs = search needs
-
-next-live-answer-requires : tie.Need-next-live-answer-requires
-next-live-answer-requires c κs = search needs
-
 returns : tie.Need-returns
 returns c = c .next-live-answer .ensures ∙ ap nextLiveOf (c .before .next-live .ensures .answer-is)
 
 pub galtuyeg-flash-next-live-spec : {M : Type 1} → statement M
 galtuyeg-flash-next-live-spec =
-    tie.close (tie.spec next-live-requires next-live-answer-requires returns)
+    tie.close (tie.spec (λ c κs. search needs) (λ c κs. search needs) returns)

@@ -5,14 +5,8 @@ use borrow.Author.Needs.{needs}
 use Rattle.capi.proofs.galtuyeg_flash_report.Statement.{statement}
 use Rattle.capi.proofs.galtuyeg_flash_report.Tie as tie
 
-report-requires : tie.Need-report-requires
-report-requires c κs = search needs
-
-report-answer-requires : tie.Need-report-answer-requires
-report-answer-requires c κs = search needs
-
 returns : tie.Need-returns
 returns c = c .report-answer .ensures ∙ ap reportOf (c .before .report .ensures .answer-is)
 
 pub galtuyeg-flash-report-spec : {M : Type 1} → statement M
-galtuyeg-flash-report-spec = tie.close (tie.spec report-requires report-answer-requires returns)
+galtuyeg-flash-report-spec = tie.close (tie.spec (λ c κs. search needs) (λ c κs. search needs) returns)

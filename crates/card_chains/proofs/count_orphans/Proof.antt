@@ -10,18 +10,6 @@ use Rattle.card_chains.proofs.count_marked.Reads as count-marked-reads
 use Rattle.card_chains.proofs.count_used.Reads as count-used-reads
 use Rattle.words.proofs.wide.Reads as wide-reads
 
-count-used-requires : tie.Need-count-used-requires
-count-used-requires c κs = search needs
-
-cast-result : tie.Need-cast-result
-cast-result c = search needs
-
-count-marked-requires : tie.Need-count-marked-requires
-count-marked-requires c κs = search needs
-
-wide-requires : tie.Need-wide-requires
-wide-requires c κs = search needs
-
 sub-result : tie.Need-sub-result
 sub-result c =
     let m = c .before in
@@ -38,9 +26,9 @@ pub count-orphans-spec : {M : Type 1} → statement M
 count-orphans-spec =
     tie.close
     (tie.spec
-    count-used-requires
-    cast-result
-    count-marked-requires
-    wide-requires
+    (λ c κs. search needs)
+    (λ c. search needs)
+    (λ c κs. search needs)
+    (λ c κs. search needs)
     sub-result
     returns)

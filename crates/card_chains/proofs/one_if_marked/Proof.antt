@@ -7,9 +7,6 @@ use Rattle.card_chains.proofs.one_if_marked.Tie as tie
 use Rattle.card_chains.proofs.one_if_marked.Reads as reads
 use Rattle.card_chains.proofs.one_if_marked.Lts as lts
 
-element-copy-out-if1 : tie.Need-element-copy-out-if1
-element-copy-out-if1 c = search needs
-
 returns : tie.Need-returns
 unfolding isMarked
 returns c = (rw (eq-eqb _ _ (c .if1 .taken)), search needs)
@@ -19,4 +16,4 @@ unfolding isMarked
 returns-2 c = (rw (ne-eqb _ _ (c .if1 .left)), search needs)
 
 pub one-if-marked-spec : {M : Type 1} → statement M
-one-if-marked-spec = tie.close (tie.spec element-copy-out-if1 returns returns-2)
+one-if-marked-spec = tie.close (tie.spec (λ c. search needs) returns returns-2)

@@ -9,15 +9,6 @@ use Rattle.card_table.proofs.classify.Reads as classify-reads
 use Rattle.card_table.proofs.fat_entry.Reads as fat-entry-reads
 use Rattle.card_table.proofs.free_or_damaged.Reads as free-or-damaged-reads
 
-fat-entry-requires : tie.Need-fat-entry-requires
-fat-entry-requires c κs = search needs
-
-classify-requires : tie.Need-classify-requires
-classify-requires c κs = search needs
-
-free-or-damaged-requires : tie.Need-free-or-damaged-requires
-free-or-damaged-requires c κs = search needs
-
 returns : tie.Need-returns
 returns c =
     let u = c .before in
@@ -33,4 +24,4 @@ returns-2 c =
 pub one-if-used-spec : {M : Type 1} → statement M
 one-if-used-spec =
     tie.close
-    (tie.spec fat-entry-requires classify-requires free-or-damaged-requires returns returns-2)
+    (tie.spec (λ c κs. search needs) (λ c κs. search needs) (λ c κs. search needs) returns returns-2)

@@ -13,12 +13,6 @@ use borrow.Author.Needs.{needs}
 use Rattle.card_games.proofs.breaks_game_rule.Statement.{statement}
 use Rattle.card_games.proofs.breaks_game_rule.Tie as tie
 
-entry-at-requires : tie.Need-entry-at-requires
-entry-at-requires c κs = search needs
-
-is-game-requires : tie.Need-is-game-requires
-is-game-requires c κs = search needs
-
 returns : tie.Need-returns
 returns c =
     let g = c .before in
@@ -28,9 +22,6 @@ returns c =
     let e = game-rule (directoryOf card) (a .args .i) (n .result .now) (n .ensures .0) (tableOf card) in
     sym (e ∙ rw (sym (g .is-game .ensures) ∙ not-true _ (c .if1 .taken)))
 
-game-before-requires : tie.Need-game-before-requires
-game-before-requires c κs = search needs
-
 returns-2 : tie.Need-returns-2
 returns-2 c =
     let g = c .before .before .before in
@@ -39,9 +30,6 @@ returns-2 c =
     let card = a .args .card .now in
     let e = game-rule (directoryOf card) (a .args .i) (n .result .now) (n .ensures .0) (tableOf card) in
     sym (e ∙ rw (sym (g .is-game .ensures) ∙ not-false _ (c .before .before .if1 .left), sym (c .before .game-before .ensures) ∙ c .if2 .taken))
-
-first-block-requires : tie.Need-first-block-requires
-first-block-requires c κs = search needs
 
 returns-3 : tie.Need-returns-3
 returns-3 c =
@@ -58,9 +46,6 @@ returns-3 c =
       sym (c .before .before .before .game-before .ensures) ∙ c .before .before .if2 .left,
       ne-eqb (firstBlock (n .result .now)) 0 (λ d. c .if3 .taken (b .ensures ∙ d)),
     ))
-
-size-requires : tie.Need-size-requires
-size-requires c κs = search needs
 
 returns-4 : tie.Need-returns-4
 returns-4 c =
@@ -122,14 +107,14 @@ pub breaks-game-rule-spec : {M : Type 1} → statement M
 breaks-game-rule-spec =
     tie.close
     (tie.spec
-    entry-at-requires
-    is-game-requires
+    (λ c κs. search needs)
+    (λ c κs. search needs)
     returns
-    game-before-requires
+    (λ c κs. search needs)
     returns-2
-    first-block-requires
+    (λ c κs. search needs)
     returns-3
-    size-requires
+    (λ c κs. search needs)
     returns-4
     rises-requires
     returns-5)

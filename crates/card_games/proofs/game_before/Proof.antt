@@ -24,12 +24,6 @@ loop-holds c =
     let e : c .before .args .i - 0 ≡ c .before .args .i = omega arith in
     (search needs, rw e)
 
-entry-at-requires : tie.Need-entry-at-requires Inv-loop μ-loop
-entry-at-requires c κs = search needs
-
-is-game-requires : tie.Need-is-game-requires Inv-loop μ-loop
-is-game-requires c κs = search needs
-
 returns : tie.Need-returns Inv-loop μ-loop
 returns c =
     let l = c .before .before .before .before in
@@ -37,12 +31,6 @@ returns c =
     let p : ℕ → Bool = λ k. isGame (entryAt (directoryOf (a .card .now)) k) in
     let e = sym (ap isGame (c .before .before .entry-at .ensures .0)) ∙ sym (c .before .is-game .ensures) ∙ c .if1 .taken in
     sym (l .loop .inv .1 ∙ any-here p (l .loop .j) (a .i) (omega arith) e)
-
-add-j : tie.Need-add-j Inv-loop μ-loop
-add-j c = search needs
-
-loop-less : tie.Need-loop-less Inv-loop μ-loop
-loop-less c = search needs
 
 loop-again : tie.Need-loop-again Inv-loop μ-loop
 loop-again c =
@@ -66,10 +54,10 @@ game-before-spec =
     Inv-loop
     μ-loop
     loop-holds
-    entry-at-requires
-    is-game-requires
+    (λ c κs. search needs)
+    (λ c κs. search needs)
     returns
-    add-j
-    loop-less
+    (λ c. search needs)
+    (λ c. search needs)
     loop-again
     returns-2)

@@ -20,9 +20,6 @@ abbrev μ-loop : tie.MeasureT-loop
 loop-holds : tie.Need-loop-holds Inv-loop μ-loop
 loop-holds c = sought-start _ _ _ _ (c .before .before .pre .1 .1)
 
-sub-listed-at : tie.Need-sub-listed-at Inv-loop μ-loop
-sub-listed-at c = search needs
-
 listed-at-requires : tie.Need-listed-at-requires Inv-loop μ-loop
 listed-at-requires c κs =
     let l = c .before in
@@ -34,9 +31,6 @@ entry-at-requires c κs =
     let a = l .before .before .before in
     (a .pre .0 .0, rw (c .listed-at .ensures) (a .pre .1 .0 .in-directory (l .loop .k - 1) (omega (arith, l .loop .inv .within))))
 
-has-name-requires : tie.Need-has-name-requires Inv-loop μ-loop
-has-name-requires c κs = search needs
-
 returns : tie.Need-returns Inv-loop μ-loop
 returns c =
     let n = c .before .before in
@@ -47,17 +41,11 @@ returns c =
     let same = same-eq _ _ (sym (c .before .has-name .ensures) ∙ c .if1 .taken) in
     sought-here _ _ _ _ (l .loop .inv) (λ z. omega (arith, z)) (sym e ∙ same)
 
-sub-wide : tie.Need-sub-wide Inv-loop μ-loop
-sub-wide c = search needs
-
 element-copy-out-wide : tie.Need-element-copy-out-wide Inv-loop μ-loop
 element-copy-out-wide c =
     let l = c .before .before .before .before .before in
     let b : l .loop .k - 1 < 208 = omega (arith, l .loop .inv .within, l .before .before .before .pre .0 .1) in
     search needs
-
-wide-requires : tie.Need-wide-requires Inv-loop μ-loop
-wide-requires c κs = search needs
 
 loop-less : tie.Need-loop-less Inv-loop μ-loop
 loop-less c =
@@ -89,14 +77,14 @@ find-back-spec =
     Inv-loop
     μ-loop
     loop-holds
-    sub-listed-at
+    (λ c. search needs)
     listed-at-requires
     entry-at-requires
-    has-name-requires
+    (λ c κs. search needs)
     returns
-    sub-wide
+    (λ c. search needs)
     element-copy-out-wide
-    wide-requires
+    (λ c κs. search needs)
     loop-less
     loop-again
     returns-2)

@@ -8,18 +8,6 @@ use borrow.Author.Needs.{needs}
 use Rattle.card_names.proofs.find_same.Statement.{statement}
 use Rattle.card_names.proofs.find_same.Tie as tie
 
-entry-at-requires : tie.Need-entry-at-requires
-entry-at-requires c κs = search needs
-
-sub-find-back : tie.Need-sub-find-back
-sub-find-back c = search needs
-
-part-find-back-start : tie.Need-part-find-back-start
-part-find-back-start c = search needs
-
-part-find-back-end : tie.Need-part-find-back-end
-part-find-back-end c = search needs
-
 find-back-requires : tie.Need-find-back-requires
 unfolding nameOf
 find-back-requires c κs =
@@ -36,9 +24,9 @@ pub find-same-spec : {M : Type 1} → statement M
 find-same-spec =
     tie.close
     (tie.spec
-    entry-at-requires
-    sub-find-back
-    part-find-back-start
-    part-find-back-end
+    (λ c κs. search needs)
+    (λ c. search needs)
+    (λ c. search needs)
+    (λ c. search needs)
     find-back-requires
     returns)

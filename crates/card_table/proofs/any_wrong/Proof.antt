@@ -28,12 +28,6 @@ is-wrong-requires c κs =
     let a = l .before .before in
     ((a .pre .0 .0, omega arith), ready-later (a .args .region) (a .args .from) (l .loop .b) (l .loop .inv .0) (a .pre .1))
 
-add-b : tie.Need-add-b Inv-loop μ-loop
-add-b c = search needs
-
-loop-less : tie.Need-loop-less Inv-loop μ-loop
-loop-less c = search needs
-
 loop-again : tie.Need-loop-again Inv-loop μ-loop
 loop-again c =
     let l = c .before .before in
@@ -53,4 +47,4 @@ returns c =
 pub any-wrong-spec : {M : Type 1} → statement M
 any-wrong-spec =
     tie.close
-    (tie.spec Inv-loop μ-loop loop-holds is-wrong-requires add-b loop-less loop-again returns)
+    (tie.spec Inv-loop μ-loop loop-holds is-wrong-requires (λ c. search needs) (λ c. search needs) loop-again returns)

@@ -9,27 +9,9 @@ use Rattle.card_table.proofs.fat_entry.Reads as reads
 use Rattle.card_table.proofs.fat_entry.Lts as lts
 use Rattle.words.proofs.word.Reads as word-reads
 
-mul-at : tie.Need-mul-at
-mul-at c = search needs
-
-add-at : tie.Need-add-at
-add-at c = search needs
-
-add-end : tie.Need-add-end
-add-end c = search needs
-
-sub-word : tie.Need-sub-word
-sub-word c = search needs
-
-part-word-start : tie.Need-part-word-start
-part-word-start c = search needs
-
 part-word-end : tie.Need-part-word-end
 unfolding cardLength
 part-word-end c = search needs
-
-word-requires : tie.Need-word-requires
-word-requires c κs = search needs
 
 returns : tie.Need-returns
 returns c =
@@ -39,4 +21,4 @@ returns c =
 pub fat-entry-spec : {M : Type 1} → statement M
 fat-entry-spec =
     tie.close
-    (tie.spec mul-at add-at add-end sub-word part-word-start part-word-end word-requires returns)
+    (tie.spec (λ c. search needs) (λ c. search needs) (λ c. search needs) (λ c. search needs) (λ c. search needs) part-word-end (λ c κs. search needs) returns)

@@ -37,12 +37,6 @@ returns c =
     let p = wrongIn (a .region) (tableOf (a .card .now)) in
     l .loop .inv .1 ∙ lowest-here p (l .loop .b) (a .to) (omega arith) (sym (c .before .is-wrong .ensures) ∙ c .if1 .taken)
 
-add-b : tie.Need-add-b Inv-loop μ-loop
-add-b c = search needs
-
-loop-less : tie.Need-loop-less Inv-loop μ-loop
-loop-less c = search needs
-
 loop-again : tie.Need-loop-again Inv-loop μ-loop
 loop-again c =
     let l = c .before .before .before in
@@ -68,7 +62,7 @@ first-wrong-spec =
     loop-holds
     is-wrong-requires
     returns
-    add-b
-    loop-less
+    (λ c. search needs)
+    (λ c. search needs)
     loop-again
     returns-2)

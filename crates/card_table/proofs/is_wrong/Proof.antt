@@ -7,34 +7,10 @@ use borrow.Author.Needs.{needs}
 use Rattle.card_table.proofs.is_wrong.Statement.{statement}
 use Rattle.card_table.proofs.is_wrong.Tie as tie
 
-fat-entry-requires : tie.Need-fat-entry-requires
-fat-entry-requires c κs = search needs
-
-enum-told : tie.Need-enum-told
-enum-told c = search needs
-
 system-entry-requires : tie.Need-system-entry-requires
 system-entry-requires c κs =
     let a = c .before .before .before .before in
     subst (λ (r : Region). Ready r (a .args .b)) (c .enum-told .given .1) (a .pre .1)
-
-enum-told-2 : tie.Need-enum-told-2
-enum-told-2 c = search needs
-
-classify-requires : tie.Need-classify-requires
-classify-requires c κs = search needs
-
-free-or-damaged-requires : tie.Need-free-or-damaged-requires
-free-or-damaged-requires c κs = search needs
-
-enum-told-3 : tie.Need-enum-told-3
-enum-told-3 c = search needs
-
-classify-requires-2 : tie.Need-classify-requires-2
-classify-requires-2 c κs = search needs
-
-is-bad-requires : tie.Need-is-bad-requires
-is-bad-requires c κs = search needs
 
 returns : tie.Need-returns
 unfolding wrongSystem
@@ -58,15 +34,15 @@ pub is-wrong-spec : {M : Type 1} → statement M
 is-wrong-spec =
     tie.close
     (tie.spec
-    fat-entry-requires
-    enum-told
+    (λ c κs. search needs)
+    (λ c. search needs)
     system-entry-requires
-    enum-told-2
-    classify-requires
-    free-or-damaged-requires
-    enum-told-3
-    classify-requires-2
-    is-bad-requires
+    (λ c. search needs)
+    (λ c κs. search needs)
+    (λ c κs. search needs)
+    (λ c. search needs)
+    (λ c κs. search needs)
+    (λ c κs. search needs)
     returns
     returns-2
     returns-3)

@@ -7,32 +7,20 @@ use borrow.Author.Needs.{needs}
 use Rattle.card_table.proofs.regions_verdict.Statement.{statement}
 use Rattle.card_table.proofs.regions_verdict.Tie as tie
 
-any-wrong-requires : tie.Need-any-wrong-requires
-any-wrong-requires c κs = search needs
-
 first-wrong-requires : tie.Need-first-wrong-requires
 first-wrong-requires c κs =
     let w = c .before in
     ((w .before .before .pre, omega arith), (omega arith, sym (w .any-wrong .ensures) ∙ c .if1 .taken))
-
-refused-at-requires : tie.Need-refused-at-requires
-refused-at-requires c κs = search needs
 
 returns : tie.Need-returns
 returns c =
     let f = c .before in
     c .refused-at .ensures ∙ system-refused (tableOf (f .before .before .before .before .args .card .now)) _ (f .first-wrong .ensures)
 
-any-wrong-requires-2 : tie.Need-any-wrong-requires-2
-any-wrong-requires-2 c κs = search needs
-
 first-wrong-requires-2 : tie.Need-first-wrong-requires-2
 first-wrong-requires-2 c κs =
     let w = c .before in
     ((w .before .before .before .before .pre, omega arith), (tt, sym (w .any-wrong2 .ensures) ∙ c .if2 .taken))
-
-refused-at-requires-2 : tie.Need-refused-at-requires-2
-refused-at-requires-2 c κs = search needs
 
 returns-2 : tie.Need-returns-2
 returns-2 c =
@@ -41,16 +29,10 @@ returns-2 c =
     let table = tableOf (i .before .before .before .args .card .now) in
     c .refused-at2 .ensures ∙ hidden-refused table (i .before .any-wrong .ensures) (i .if1 .left) _ (f .first-wrong2 .ensures)
 
-any-wrong-requires-3 : tie.Need-any-wrong-requires-3
-any-wrong-requires-3 c κs = search needs
-
 first-wrong-requires-3 : tie.Need-first-wrong-requires-3
 first-wrong-requires-3 c κs =
     let w = c .before in
     ((w .before .before .before .before .before .before .pre, omega arith), (tt, sym (w .any-wrong3 .ensures) ∙ c .if3 .taken))
-
-refused-at-requires-3 : tie.Need-refused-at-requires-3
-refused-at-requires-3 c κs = search needs
 
 returns-3 : tie.Need-returns-3
 returns-3 c =
@@ -60,9 +42,6 @@ returns-3 c =
     let table = tableOf (i .before .before .before .args .card .now) in
     c .refused-at3 .ensures
     ∙ user-refused table (i .before .any-wrong .ensures) (i .if1 .left) (j .before .any-wrong2 .ensures) (j .if2 .left) _ (f .first-wrong3 .ensures)
-
-done-requires : tie.Need-done-requires
-done-requires c κs = search needs
 
 returns-4 : tie.Need-returns-4
 returns-4 c =
@@ -84,17 +63,17 @@ pub regions-verdict-spec : {M : Type 1} → statement M
 regions-verdict-spec =
     tie.close
     (tie.spec
-    any-wrong-requires
+    (λ c κs. search needs)
     first-wrong-requires
-    refused-at-requires
+    (λ c κs. search needs)
     returns
-    any-wrong-requires-2
+    (λ c κs. search needs)
     first-wrong-requires-2
-    refused-at-requires-2
+    (λ c κs. search needs)
     returns-2
-    any-wrong-requires-3
+    (λ c κs. search needs)
     first-wrong-requires-3
-    refused-at-requires-3
+    (λ c κs. search needs)
     returns-3
-    done-requires
+    (λ c κs. search needs)
     returns-4)

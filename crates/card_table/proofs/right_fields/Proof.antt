@@ -4,21 +4,6 @@ use borrow.Author.Needs.{needs}
 use Rattle.card_table.proofs.right_fields.Statement.{statement}
 use Rattle.card_table.proofs.right_fields.Tie as tie
 
-word-requires : tie.Need-word-requires
-word-requires c κs = search needs
-
-word-requires-2 : tie.Need-word-requires-2
-word-requires-2 c κs = search needs
-
-word-requires-3 : tie.Need-word-requires-3
-word-requires-3 c κs = search needs
-
-word-requires-4 : tie.Need-word-requires-4
-word-requires-4 c κs = search needs
-
-word-requires-5 : tie.Need-word-requires-5
-word-requires-5 c κs = search needs
-
 returns : tie.Need-returns
 unfolding rightFields
 returns c =
@@ -29,9 +14,9 @@ pub right-fields-spec : {M : Type 1} → statement M
 right-fields-spec =
     tie.close
     (tie.spec
-    word-requires
-    word-requires-2
-    word-requires-3
-    word-requires-4
-    word-requires-5
+    (λ c κs. search needs)
+    (λ c κs. search needs)
+    (λ c κs. search needs)
+    (λ c κs. search needs)
+    (λ c κs. search needs)
     returns)

@@ -8,12 +8,9 @@ returns : tie.Need-returns
 unfolding systemEntry
 returns c = rw (c .if1 .taken)
 
-sub-result : tie.Need-sub-result
-sub-result c = search needs
-
 returns-2 : tie.Need-returns-2
 unfolding systemEntry
 returns-2 c = rw (c .if1 .left)
 
 pub system-entry-spec : {M : Type 1} → statement M
-system-entry-spec = tie.close (tie.spec returns sub-result returns-2)
+system-entry-spec = tie.close (tie.spec returns (λ c. search needs) returns-2)

@@ -6,12 +6,6 @@ use borrow.Author.Needs.{needs}
 use Rattle.card_table.proofs.table_verdict.Statement.{statement}
 use Rattle.card_table.proofs.table_verdict.Tie as tie
 
-sub-root-verdict : tie.Need-sub-root-verdict
-sub-root-verdict c = search needs
-
-part-root-verdict-start : tie.Need-part-root-verdict-start
-part-root-verdict-start c = search needs
-
 part-root-verdict-end : tie.Need-part-root-verdict-end
 unfolding cardLength
 part-root-verdict-end c = search needs
@@ -27,9 +21,6 @@ returns c =
     let card = c .before .before .before .before .before .args .card .now in
     sym (root-refused (rootOf card) (tableOf card) (v .result) (v .ensures) (c .if1 .taken))
 
-regions-verdict-requires : tie.Need-regions-verdict-requires
-regions-verdict-requires c κs = search needs
-
 returns-2 : tie.Need-returns-2
 unfolding rootOf blockAt
 returns-2 c =
@@ -43,10 +34,10 @@ pub table-verdict-spec : {M : Type 1} → statement M
 table-verdict-spec =
     tie.close
     (tie.spec
-    sub-root-verdict
-    part-root-verdict-start
+    (λ c. search needs)
+    (λ c. search needs)
     part-root-verdict-end
     root-verdict-requires
     returns
-    regions-verdict-requires
+    (λ c κs. search needs)
     returns-2)

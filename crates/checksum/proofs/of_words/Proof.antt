@@ -21,15 +21,6 @@ abbrev μ-loop : tie.MeasureT-loop
 loop-holds : tie.Need-loop-holds Inv-loop μ-loop
 loop-holds c = (search needs, ap (λ (n : ℕ). crcFrom n (c .before .args .bytes .now)) start-word)
 
-sub-loop : tie.Need-sub-loop Inv-loop μ-loop
-sub-loop c = search needs
-
-fold64-requires : tie.Need-fold64-requires Inv-loop μ-loop
-fold64-requires c κs = search needs
-
-big8-requires : tie.Need-big8-requires Inv-loop μ-loop
-big8-requires c κs = search needs
-
 add-i : tie.Need-add-i Inv-loop μ-loop
 add-i c = omega arith
 
@@ -43,15 +34,6 @@ loop-again c =
     let s = c .before .before .before .before .before .args .bytes .now in
     let long : l .i + 8 ≤ length s = omega arith in
     (long, sym (crc-fold s (l .i) (l .a) (f .result) (c .big8 .result) (f .ensures) (c .big8 .ensures) long) ∙ l .inv .1)
-
-remainder-requires : tie.Need-remainder-requires Inv-loop μ-loop
-remainder-requires c κs = search needs
-
-fold16-requires : tie.Need-fold16-requires Inv-loop μ-loop
-fold16-requires c κs = search needs
-
-rest-requires : tie.Need-rest-requires Inv-loop μ-loop
-rest-requires c κs = search needs
 
 returns : tie.Need-returns Inv-loop μ-loop
 returns c =
@@ -68,13 +50,13 @@ of-words-spec =
     Inv-loop
     μ-loop
     loop-holds
-    sub-loop
-    fold64-requires
-    big8-requires
+    (λ c. search needs)
+    (λ c κs. search needs)
+    (λ c κs. search needs)
     add-i
     loop-less
     loop-again
-    remainder-requires
-    fold16-requires
-    rest-requires
+    (λ c κs. search needs)
+    (λ c κs. search needs)
+    (λ c κs. search needs)
     returns)

@@ -4,12 +4,6 @@ use borrow.Author.Needs.{needs}
 use Rattle.flash_bitmap.proofs.clear_bits.Statement.{statement}
 use Rattle.flash_bitmap.proofs.clear_bits.Tie as tie
 
-first-bitmap-requires : tie.Need-first-bitmap-requires
-first-bitmap-requires c κs = search needs
-
-start-requires : tie.Need-start-requires
-start-requires c κs = search needs
-
 sub-clear-first : tie.Need-sub-clear-first
 sub-clear-first c =
     let a = c .before .before .before in
@@ -18,18 +12,12 @@ sub-clear-first c =
 part-clear-first-start : tie.Need-part-clear-first-start
 part-clear-first-start c = sub-clear-first c
 
-part-clear-first-end : tie.Need-part-clear-first-end
-part-clear-first-end c = search needs
-
 clear-first-requires : tie.Need-clear-first-requires
 clear-first-requires c κs =
     let a = c .before .before .before .before in
     let f = c .before .before .first-bitmap .ensures in
     let s = c .before .start .ensures in
     (bits-enough (a .pre .0) f s (a .args .n) (a .pre .1 .0), rw (bitmap-part (a .pre .0) f s) (a .pre .1 .1))
-
-same-length : tie.Need-same-length
-same-length c = search needs
 
 returns : tie.Need-returns
 returns c =
@@ -40,11 +28,11 @@ pub clear-bits-spec : {M : Type 1} → statement M
 clear-bits-spec =
     tie.close
     (tie.spec
-    first-bitmap-requires
-    start-requires
+    (λ c κs. search needs)
+    (λ c κs. search needs)
     sub-clear-first
     part-clear-first-start
-    part-clear-first-end
+    (λ c. search needs)
     clear-first-requires
-    same-length
+    (λ c. search needs)
     returns)

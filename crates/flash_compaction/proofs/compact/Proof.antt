@@ -28,9 +28,6 @@ room k =
 array-write-area : tie.Need-array-write-area
 array-write-area c = inside (c .before .before)
 
-slice-aggregate-keep-contents : tie.Need-slice-aggregate-keep-contents
-slice-aggregate-keep-contents c = search needs
-
 keep-contents-requires : tie.Need-keep-contents-requires
 keep-contents-requires c κs =
     let a = c .before .before .before .before in
@@ -61,9 +58,6 @@ finish-requires c κs =
       (omega arith, omega (arith, room k)),
     )
 
-same-length : tie.Need-same-length
-same-length c = search needs
-
 returns : tie.Need-returns
 returns c =
     let p = c .before .before .before .before .before .before in
@@ -78,10 +72,10 @@ compact-spec =
     tie.close
     (tie.spec
     array-write-area
-    slice-aggregate-keep-contents
+    (λ c. search needs)
     keep-contents-requires
     put-block-requires
     add-finish
     finish-requires
-    same-length
+    (λ c. search needs)
     returns)

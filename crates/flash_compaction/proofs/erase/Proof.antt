@@ -9,9 +9,6 @@ use borrow.Author.Needs.{needs}
 use Rattle.flash_compaction.proofs.erase.Statement.{statement}
 use Rattle.flash_compaction.proofs.erase.Tie as tie
 
-slice-aggregate-keep-contents : tie.Need-slice-aggregate-keep-contents
-slice-aggregate-keep-contents c = search needs
-
 keep-contents-requires : tie.Need-keep-contents-requires
 keep-contents-requires c κs =
     let a = c .before .before .before in
@@ -26,9 +23,6 @@ finish-requires c κs =
     let h = erase-high (a .pre) _ new-area _ (k .keep-contents .result) (k .keep-contents .ensures) in
     (record { has-size = k .keep-contents .kept .0 ∙ o .has-size; is-legal = o .is-legal }, (omega arith, omega (arith, n, h)))
 
-same-length : tie.Need-same-length
-same-length c = search needs
-
 returns : tie.Need-returns
 returns c =
     let k = c .before .before .before .before .before .before .before in
@@ -40,8 +34,8 @@ pub erase-spec : {M : Type 1} → statement M
 erase-spec =
     tie.close
     (tie.spec
-    slice-aggregate-keep-contents
+    (λ c. search needs)
     keep-contents-requires
     finish-requires
-    same-length
+    (λ c. search needs)
     returns)

@@ -19,9 +19,6 @@ listed : (l : tie.After-list-kept)
     ≡ keptBlocks (l .before .before .before .before .before .before .args .area .now) (l .before .before .before .before .before .before .args .image .now) (l .before .before .before .before .before .before .args .log .used)
 listed l = part-is 1021 (1021 - l .list-kept .result) (l .list-kept .last .1 .1 .1 .0) _ (l .list-kept .kept .1 .1 .1 .0) (l .list-kept .ensures .listed)
 
-slice-aggregate-list-kept : tie.Need-slice-aggregate-list-kept
-slice-aggregate-list-kept c = search needs
-
 list-kept-requires : tie.Need-list-kept-requires
 list-kept-requires c κs =
     let a = c .before .before .before .before .before in
@@ -34,30 +31,12 @@ sub-keep-blocks c =
     let s = a .args .log .m .size in
     omega (arith, l .list-kept .ensures .few, count-most (a .pre .0), capacity-most s (usable-legal (a .pre .0)))
 
-mul-keep-blocks : tie.Need-mul-keep-blocks
-mul-keep-blocks c = search needs
-
-sub-keep-blocks-2 : tie.Need-sub-keep-blocks-2
-sub-keep-blocks-2 c = search needs
-
-part-keep-blocks-start : tie.Need-part-keep-blocks-start
-part-keep-blocks-start c = search needs
-
-part-keep-blocks-end : tie.Need-part-keep-blocks-end
-part-keep-blocks-end c = search needs
-
 keep-blocks-requires : tie.Need-keep-blocks-requires
 keep-blocks-requires c κs =
     let l = c .before .before .before .before .before .before in
     let a = l .before .before .before .before .before .before in
     let i = a .args .image .now in
     subst (λ (kept : List ℕ). RisingBlocks 1 (length i) kept) (sym (listed l)) (kept-rise (a .pre .0) (a .args .area .now))
-
-same-length : tie.Need-same-length
-same-length c = search needs
-
-same-length-2 : tie.Need-same-length-2
-same-length-2 c = search needs
 
 returns : tie.Need-returns
 returns c =
@@ -70,14 +49,14 @@ pub keep-contents-spec : {M : Type 1} → statement M
 keep-contents-spec =
     tie.close
     (tie.spec
-    slice-aggregate-list-kept
+    (λ c. search needs)
     list-kept-requires
     sub-keep-blocks
-    mul-keep-blocks
-    sub-keep-blocks-2
-    part-keep-blocks-start
-    part-keep-blocks-end
+    (λ c. search needs)
+    (λ c. search needs)
+    (λ c. search needs)
+    (λ c. search needs)
     keep-blocks-requires
-    same-length
-    same-length-2
+    (λ c. search needs)
+    (λ c. search needs)
     returns)

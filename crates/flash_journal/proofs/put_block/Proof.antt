@@ -19,23 +19,11 @@ add-end c =
     let w = within (a .args .k) (a .pre .0) (a .pre .1 .0) in
     search needs
 
-sub-write-block : tie.Need-sub-write-block
-sub-write-block c = search needs
-
-part-write-block-start : tie.Need-part-write-block-start
-part-write-block-start c = search needs
-
 part-write-block-end : tie.Need-part-write-block-end
 part-write-block-end c =
     let a = c .before .before .before in
     let w = within (a .args .k) (a .pre .0) (a .pre .1 .0) in
     search needs
-
-write-block-requires : tie.Need-write-block-requires
-write-block-requires c κs = search needs
-
-same-length : tie.Need-same-length
-same-length c = search needs
 
 returns : tie.Need-returns
 returns c =
@@ -50,9 +38,9 @@ put-block-spec =
     (tie.spec
     start-requires
     add-end
-    sub-write-block
-    part-write-block-start
+    (λ c. search needs)
+    (λ c. search needs)
     part-write-block-end
-    write-block-requires
-    same-length
+    (λ c κs. search needs)
+    (λ c. search needs)
     returns)

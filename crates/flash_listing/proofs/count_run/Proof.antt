@@ -59,12 +59,6 @@ add-count c =
     let t = e .before .before .before .before .before .before in
     omega (arith, e .enter .ensures .0 .1, t .loop-test .taken, t .before .loop .inv .0, t .before .before .before .before .fits)
 
-sub-k : tie.Need-sub-k Inv-loop μ-loop
-sub-k c = search needs
-
-loop-less : tie.Need-loop-less Inv-loop μ-loop
-loop-less c = search needs
-
 loop-again : tie.Need-loop-again Inv-loop μ-loop
 loop-again c =
     let e = c .before .before in
@@ -107,8 +101,8 @@ count-run-spec =
     returns
     enter-requires
     add-count
-    sub-k
-    loop-less
+    (λ c. search needs)
+    (λ c. search needs)
     loop-again
     same-length-2
     returns-2)

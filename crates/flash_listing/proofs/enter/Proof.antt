@@ -14,17 +14,8 @@ use Rattle.flash_listing.proofs.enter.Tie as tie
 place-is : (w : tie.After-word) → number (w .before .before .before .before .before .args .part .now) ≡ w .word .result
 place-is w = number-is (w .before .before .before .before .before .args .part .now) ∙ sym (w .word .ensures .0)
 
-right-checksum-requires : tie.Need-right-checksum-requires
-right-checksum-requires c κs = search needs
-
-word-requires : tie.Need-word-requires
-word-requires c κs = search needs
-
 slice-write-area : tie.Need-slice-write-area
 slice-write-area c = omega (arith, place-is c, c .before .before .before .before .before .pre .1)
-
-same-length : tie.Need-same-length
-same-length c = search needs
 
 returns : tie.Need-returns
 returns c =
@@ -36,4 +27,4 @@ returns c =
 
 pub enter-spec : {M : Type 1} → statement M
 enter-spec =
-    tie.close (tie.spec right-checksum-requires word-requires slice-write-area same-length returns)
+    tie.close (tie.spec (λ c κs. search needs) (λ c κs. search needs) slice-write-area (λ c. search needs) returns)

@@ -7,18 +7,12 @@ use borrow.Author.Needs.{needs}
 use Rattle.flash_listing.proofs.is_new.Statement.{statement}
 use Rattle.flash_listing.proofs.is_new.Tie as tie
 
-word-requires : tie.Need-word-requires
-word-requires c κs = search needs
-
 returns : tie.Need-returns
 unfolding isNew
 returns c =
     let w = c .before in
     let s = w .before .before .before .args in
     rw (number-is (s .part .now), sym (w .word .ensures .0), le-ltb _ _ (c .if1 .taken))
-
-shared-slice-read-result : tie.Need-shared-slice-read-result
-shared-slice-read-result c = search needs
 
 returns-2 : tie.Need-returns-2
 unfolding isNew
@@ -28,4 +22,4 @@ returns-2 c =
     rw (number-is (s .part .now), sym (w .word .ensures .0), lt-ltb _ _ (c .before .if1 .left))
 
 pub is-new-spec : {M : Type 1} → statement M
-is-new-spec = tie.close (tie.spec word-requires returns shared-slice-read-result returns-2)
+is-new-spec = tie.close (tie.spec (λ c κs. search needs) returns (λ c. search needs) returns-2)

@@ -75,9 +75,6 @@ sub-kept-2 c =
     let t = c .before .before .before .before .before .before .before .before in
     omega (arith, room (t .before), t .loop-test .taken)
 
-mul-kept : tie.Need-mul-kept Inv-loop μ-loop
-mul-kept c = search needs
-
 slice-write-kept : tie.Need-slice-write-kept Inv-loop μ-loop
 slice-write-kept c =
     let t = c .before .before .before .before .before .before .before .before in
@@ -89,12 +86,6 @@ add-count c =
     let t = e .before .before .before .before .before .before in
     let l = t .before in
     omega (arith, e .enter .ensures .0 .1, t .loop-test .taken, room l, l .loop .inv .3, l .before .before .before .before .good .1 .1 .1 .1 .0 .0)
-
-sub-k : tie.Need-sub-k Inv-loop μ-loop
-sub-k c = search needs
-
-loop-less : tie.Need-loop-less Inv-loop μ-loop
-loop-less c = search needs
 
 loop-again : tie.Need-loop-again Inv-loop μ-loop
 loop-again c =
@@ -151,11 +142,11 @@ list-run-spec =
     cast-kept
     sub-kept
     sub-kept-2
-    mul-kept
+    (λ c. search needs)
     slice-write-kept
     add-count
-    sub-k
-    loop-less
+    (λ c. search needs)
+    (λ c. search needs)
     loop-again
     same-length-3
     same-length-4

@@ -6,16 +6,10 @@ use borrow.Author.Needs.{needs}
 use Rattle.flash_listing.proofs.lower.Statement.{statement}
 use Rattle.flash_listing.proofs.lower.Tie as tie
 
-word-requires : tie.Need-word-requires
-word-requires c κs = search needs
-
 returns : tie.Need-returns
 returns c =
     let s = c .before .before .before .args in
     lowered-passed (s .start) (s .best) (c .before .word .result) _ (number-is (s .part .now) ∙ sym (c .before .word .ensures .0)) (c .if1 .taken)
-
-right-checksum-requires : tie.Need-right-checksum-requires
-right-checksum-requires c κs = search needs
 
 returns-2 : tie.Need-returns-2
 returns-2 c =
@@ -31,4 +25,4 @@ returns-3 c =
     lowered-wrong (s .start) (s .best) (w .word .result) _ (number-is (s .part .now) ∙ sym (w .word .ensures .0)) (sym (c .before .right-checksum .ensures) ∙ c .if2 .left)
 
 pub lower-spec : {M : Type 1} → statement M
-lower-spec = tie.close (tie.spec word-requires returns right-checksum-requires returns-2 returns-3)
+lower-spec = tie.close (tie.spec (λ c κs. search needs) returns (λ c κs. search needs) returns-2 returns-3)

@@ -35,12 +35,6 @@ returns c =
     let a = l .before .before .before .args in
     (stops-here (l .loop .inv .1) (l .loop .inv .0) (p .part-from .ensures .0) (sym (c .before .is-new .ensures) ∙ c .if1 .taken), l .loop .inv .2)
 
-sub-k : tie.Need-sub-k Inv-loop μ-loop
-sub-k c = search needs
-
-loop-less : tie.Need-loop-less Inv-loop μ-loop
-loop-less c = search needs
-
 loop-again : tie.Need-loop-again Inv-loop μ-loop
 loop-again c =
     let p = c .before .before in
@@ -68,7 +62,7 @@ pass-known-spec =
     part-from-requires
     is-new-requires
     returns
-    sub-k
-    loop-less
+    (λ c. search needs)
+    (λ c. search needs)
     loop-again
     returns-2)

@@ -26,24 +26,12 @@ sub-fill c =
 part-fill-start : tie.Need-part-fill-start
 part-fill-start c = sub-fill c
 
-part-fill-end : tie.Need-part-fill-end
-part-fill-end c = search needs
-
-fill-requires : tie.Need-fill-requires
-fill-requires c κs = search needs
-
-sub-clear-bits : tie.Need-sub-clear-bits
-sub-clear-bits c = search needs
-
 clear-bits-requires : tie.Need-clear-bits-requires
 clear-bits-requires c κs =
     let a = c .before .before .before .before .before .before .before in
     let w = within (a .args .next - 1) (a .pre .0) (omega arith) in
     let same = filled (a .args .image .now) (a .args .m .size) (a .args .next) _ (a .pre .0 .has-size) (omega arith) (c .before .before .before .before .before .start .ensures) (c .before .before .before .fill .ensures) in
     (record { has-size = search needs; is-legal = search needs }, (search needs, blank-bitmap (a .args .image .now) (a .args .m .size) (a .args .next) (search needs) (omega arith) same))
-
-same-length : tie.Need-same-length
-same-length c = search needs
 
 returns : tie.Need-returns
 returns c =
@@ -62,9 +50,9 @@ finish-spec =
     start-requires
     sub-fill
     part-fill-start
-    part-fill-end
-    fill-requires
-    sub-clear-bits
+    (λ c. search needs)
+    (λ c κs. search needs)
+    (λ c. search needs)
     clear-bits-requires
-    same-length
+    (λ c. search needs)
     returns)

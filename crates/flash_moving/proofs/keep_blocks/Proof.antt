@@ -19,15 +19,6 @@ loop-holds c =
     let a = c .before .before in
     conserved-start (a .args .kept .now) (a .args .image .now) (a .pre)
 
-sub-move-block : tie.Need-sub-move-block Inv-loop μ-loop
-sub-move-block c = search needs
-
-mul-move-block : tie.Need-mul-move-block Inv-loop μ-loop
-mul-move-block c = search needs
-
-shared-slice-read-move-block : tie.Need-shared-slice-read-move-block Inv-loop μ-loop
-shared-slice-read-move-block c = search needs
-
 cast-move-block : tie.Need-cast-move-block Inv-loop μ-loop
 cast-move-block c = omega (arith, c .shared-slice-known2 .given (c .before .before .before .loop .to - 1))
 
@@ -38,21 +29,12 @@ move-block-requires c κs =
     let t = c .before .before .loop-test .taken in
     (omega (arith, l .loop .inv .low, next-down (a .kept .now) (a .image .now) (l .loop .to) (l .loop .image) (l .loop .inv) t), next-fits (a .kept .now) (a .image .now) (l .loop .to) (l .loop .image) (l .loop .inv) t)
 
-add-to : tie.Need-add-to Inv-loop μ-loop
-add-to c = search needs
-
-loop-less : tie.Need-loop-less Inv-loop μ-loop
-loop-less c = search needs
-
 loop-again : tie.Need-loop-again Inv-loop μ-loop
 loop-again c =
     let l = c .before .before .before .before .before .before in
     let a = l .before .before .before .args in
     conserved-next (a .kept .now) (a .image .now) (l .loop .to) (l .loop .image) (l .loop .inv) (c .before .before .before .before .before .loop-test .taken) _
     (c .before .before .move-block .ensures)
-
-same-length : tie.Need-same-length Inv-loop μ-loop
-same-length c = search needs
 
 returns : tie.Need-returns Inv-loop μ-loop
 returns c =
@@ -66,13 +48,13 @@ keep-blocks-spec =
     Inv-loop
     μ-loop
     loop-holds
-    sub-move-block
-    mul-move-block
-    shared-slice-read-move-block
+    (λ c. search needs)
+    (λ c. search needs)
+    (λ c. search needs)
     cast-move-block
     move-block-requires
-    add-to
-    loop-less
+    (λ c. search needs)
+    (λ c. search needs)
     loop-again
-    same-length
+    (λ c. search needs)
     returns)

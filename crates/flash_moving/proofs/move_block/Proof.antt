@@ -24,41 +24,14 @@ returns c =
     let a = c .before .args in
     rw (c .if1 .taken) (sym (block-itself (a .image .now) (a .to)))
 
-mul-a : tie.Need-mul-a Inv-loop μ-loop
-mul-a c = search needs
-
-mul-b : tie.Need-mul-b Inv-loop μ-loop
-mul-b c = search needs
-
 loop-holds : tie.Need-loop-holds Inv-loop μ-loop
 loop-holds c = (search needs, refl, paste-zero _ (c .before .args .to * 64) [])
-
-add-image : tie.Need-add-image Inv-loop μ-loop
-add-image c = search needs
-
-slice-read-image : tie.Need-slice-read-image Inv-loop μ-loop
-slice-read-image c = search needs
-
-add-image-2 : tie.Need-add-image-2 Inv-loop μ-loop
-add-image-2 c = search needs
-
-slice-write-image : tie.Need-slice-write-image Inv-loop μ-loop
-slice-write-image c = search needs
-
-add-i : tie.Need-add-i Inv-loop μ-loop
-add-i c = search needs
-
-loop-less : tie.Need-loop-less Inv-loop μ-loop
-loop-less c = search needs
 
 loop-again : tie.Need-loop-again Inv-loop μ-loop
 loop-again c =
     let at = c .before .before in
     let a = at .before .before .args in
     (omega arith, simp length-set (at .loop .inv .1), rw (at .loop .inv .2) (move-step (a .image .now) (a .from * 64) (a .to * 64) (at .loop .i) (omega arith) (omega arith)))
-
-same-length : tie.Need-same-length Inv-loop μ-loop
-same-length c = search needs
 
 returns-2 : tie.Need-returns-2 Inv-loop μ-loop
 unfolding blockAt withBlock
@@ -74,15 +47,15 @@ move-block-spec =
     Inv-loop
     μ-loop
     returns
-    mul-a
-    mul-b
+    (λ c. search needs)
+    (λ c. search needs)
     loop-holds
-    add-image
-    slice-read-image
-    add-image-2
-    slice-write-image
-    add-i
-    loop-less
+    (λ c. search needs)
+    (λ c. search needs)
+    (λ c. search needs)
+    (λ c. search needs)
+    (λ c. search needs)
+    (λ c. search needs)
     loop-again
-    same-length
+    (λ c. search needs)
     returns-2)

@@ -11,15 +11,6 @@ use borrow.Author.Needs.{needs}
 use Rattle.flash_pages.proofs.changed.Statement.{statement}
 use Rattle.flash_pages.proofs.changed.Tie as tie
 
-find-requires : tie.Need-find-requires
-find-requires c κs = search needs
-
-enum-told : tie.Need-enum-told
-enum-told c = search needs
-
-enum-told-2 : tie.Need-enum-told-2
-enum-told-2 c = search needs
-
 returns : tie.Need-returns
 returns c =
     let a = c .before .before .before .before .before .before in
@@ -32,12 +23,6 @@ returns-2 c =
     let u = a .pre .0 in
     nothing-there u (a .args .number) (a .args .expected .now) (c .before .before .if1 .taken) (sym (c .before .before .before .find .ensures) ∙ c .enum-told .given .1)
 
-enum-known-found : tie.Need-enum-known-found
-enum-known-found c = search needs
-
-enum-told-3 : tie.Need-enum-told-3
-enum-told-3 c = search needs
-
 returns-3 : tie.Need-returns-3
 returns-3 c =
     let a = c .before .before .before .before .before .before in
@@ -49,18 +34,6 @@ part-from-requires c κs =
     let a = c .before .before .before .before .before .before .before in
     let u = a .pre .0 in
     (usable-has u, found-high u (a .args .number) _ (sym (c .before .before .before .before .find .ensures) ∙ c .before .found .given .1))
-
-sub-same : tie.Need-sub-same
-sub-same c = search needs
-
-part-same-start : tie.Need-part-same-start
-part-same-start c = search needs
-
-part-same-end : tie.Need-part-same-end
-part-same-end c = search needs
-
-same-requires : tie.Need-same-requires
-same-requires c κs = search needs
 
 returns-4 : tie.Need-returns-4
 returns-4 c =
@@ -82,18 +55,18 @@ pub changed-spec : {M : Type 1} → statement M
 changed-spec =
     tie.close
     (tie.spec
-    find-requires
-    enum-told
-    enum-told-2
+    (λ c κs. search needs)
+    (λ c. search needs)
+    (λ c. search needs)
     returns
     returns-2
-    enum-known-found
-    enum-told-3
+    (λ c. search needs)
+    (λ c. search needs)
     returns-3
     part-from-requires
-    sub-same
-    part-same-start
-    part-same-end
-    same-requires
+    (λ c. search needs)
+    (λ c. search needs)
+    (λ c. search needs)
+    (λ c κs. search needs)
     returns-4
     returns-5)

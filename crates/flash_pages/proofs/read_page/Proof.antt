@@ -32,12 +32,6 @@ find-requires c κs =
     let l = c .before in
     (l .before .before .before .before .pre, sym (l .before .legal-number .ensures) ∙ not-false _ (l .if1 .left))
 
-enum-known-k : tie.Need-enum-known-k
-enum-known-k c = search needs
-
-enum-told : tie.Need-enum-told
-enum-told c = search needs
-
 returns-3 : tie.Need-returns-3
 returns-3 c =
     let a = c .before .before .before .before .before .before .before .before in
@@ -53,21 +47,6 @@ part-from-requires c κs =
     let a = c .before .before .before .before .before .before .before .before .before in
     let u = a .pre in
     (usable-has u, found-high u (a .args .number) _ (sym (c .before .before .before .find .ensures) ∙ c .before .k .given .1))
-
-sub-copy-page : tie.Need-sub-copy-page
-sub-copy-page c = search needs
-
-part-copy-page-start : tie.Need-part-copy-page-start
-part-copy-page-start c = search needs
-
-part-copy-page-end : tie.Need-part-copy-page-end
-part-copy-page-end c = search needs
-
-copy-page-requires : tie.Need-copy-page-requires
-copy-page-requires c κs = search needs
-
-same-length : tie.Need-same-length
-same-length c = search needs
 
 returns-4 : tie.Need-returns-4
 returns-4 c =
@@ -89,13 +68,13 @@ read-page-spec =
     returns
     returns-2
     find-requires
-    enum-known-k
-    enum-told
+    (λ c. search needs)
+    (λ c. search needs)
     returns-3
     part-from-requires
-    sub-copy-page
-    part-copy-page-start
-    part-copy-page-end
-    copy-page-requires
-    same-length
+    (λ c. search needs)
+    (λ c. search needs)
+    (λ c. search needs)
+    (λ c κs. search needs)
+    (λ c. search needs)
     returns-4)

@@ -21,9 +21,6 @@ returns c =
     let r = save-6 u (a .args .number) (a .args .expected .now) (a .args .page .now) (sym (c .before .legal-number .ensures) ∙ not-true _ (c .if1 .taken)) in
     (r .code-is, r .image-is)
 
-wrong-lengths-requires : tie.Need-wrong-lengths-requires
-wrong-lengths-requires c κs = search needs
-
 returns-2 : tie.Need-returns-2
 returns-2 c =
     let a = c .before .before .before .before .before .before .before in
@@ -37,9 +34,6 @@ changed-requires : tie.Need-changed-requires
 changed-requires c κs =
     let l = c .before .before .before in
     (l .before .before .before .before .before .pre, sym (l .before .legal-number .ensures) ∙ not-false _ (l .if1 .left))
-
-same-length : tie.Need-same-length
-same-length c = search needs
 
 returns-3 : tie.Need-returns-3
 returns-3 c =
@@ -63,9 +57,6 @@ store-requires c κs =
     let right = sym (w .before .wrong-lengths .ensures) ∙ w .if2 .left in
     (u, (legal-le s (a .args .number) legal, page-60 u (a .args .number) (a .args .expected .now) (a .args .page .now) right))
 
-same-length-2 : tie.Need-same-length-2
-same-length-2 c = search needs
-
 returns-4 : tie.Need-returns-4
 returns-4 c =
     let a = c .before .before .before .before .before .before .before .before .before .before .before .before .before .before in
@@ -83,11 +74,11 @@ save-page-spec =
     (tie.spec
     legal-number-requires
     returns
-    wrong-lengths-requires
+    (λ c κs. search needs)
     returns-2
     changed-requires
-    same-length
+    (λ c. search needs)
     returns-3
     store-requires
-    same-length-2
+    (λ c. search needs)
     returns-4)

@@ -16,33 +16,6 @@ use Rattle.readback.proofs.save_and_read_back.Tie as tie
 abbrev step : Call → Reply → List ℕ → Step
 step made answer image′ = record { made = made; answer = answer; image′ = image′ }
 
-save-requires : tie.Need-save-requires
-save-requires c κs = search needs
-
-check-requires : tie.Need-check-requires
-check-requires c κs = search needs
-
-save-requires-2 : tie.Need-save-requires-2
-save-requires-2 c κs = search needs
-
-report-requires : tie.Need-report-requires
-report-requires c κs = search needs
-
-next-live-requires : tie.Need-next-live-requires
-next-live-requires c κs = search needs
-
-erase-requires : tie.Need-erase-requires
-erase-requires c κs = search needs
-
-read-requires : tie.Need-read-requires
-read-requires c κs = search needs
-
-same-length : tie.Need-same-length
-same-length c = search needs
-
-same-length-2 : tie.Need-same-length-2
-same-length-2 c = search needs
-
 returns : tie.Need-returns
 returns c =
     let a = c .before .before .before .before .before .before .before .before .before .before .before .before .before .before .before .before .before .before .before .before .before .before .before .before .before .before .before .before in
@@ -85,13 +58,13 @@ pub save-and-read-back-spec : {M : Type 1} → statement M
 save-and-read-back-spec =
     tie.close
     (tie.spec
-    save-requires
-    check-requires
-    save-requires-2
-    report-requires
-    next-live-requires
-    erase-requires
-    read-requires
-    same-length
-    same-length-2
+    (λ c κs. search needs)
+    (λ c κs. search needs)
+    (λ c κs. search needs)
+    (λ c κs. search needs)
+    (λ c κs. search needs)
+    (λ c κs. search needs)
+    (λ c κs. search needs)
+    (λ c. search needs)
+    (λ c. search needs)
     returns)

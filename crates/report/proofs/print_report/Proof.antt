@@ -6,9 +6,6 @@ use borrow.Author.Needs.{needs}
 use Rattle.report.proofs.print_report.Statement.{statement}
 use Rattle.report.proofs.print_report.Tie as tie
 
-write-report-requires : tie.Need-write-report-requires
-write-report-requires c κs = search needs
-
 array-share-prefix-text : tie.Need-array-share-prefix-text
 array-share-prefix-text c =
     let s = c .before .before .before in
@@ -20,18 +17,12 @@ slice-aggregate-print c =
     let s = w .before .before .before in
     start-length _ _ (text-within (reportText (s .args .image .now)) _ (w .write-report .ensures .0) (w .write-report .ensures .1))
 
-print-requires : tie.Need-print-requires
-print-requires c κs = search needs
-
-returns : tie.Need-returns
-returns c = search needs
-
 pub print-report-spec : {M : Type 1} → statement M
 print-report-spec =
     tie.close
     (tie.spec
-    write-report-requires
+    (λ c κs. search needs)
     array-share-prefix-text
     slice-aggregate-print
-    print-requires
-    returns)
+    (λ c κs. search needs)
+    (λ c. search needs))

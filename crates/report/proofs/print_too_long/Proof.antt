@@ -6,27 +6,18 @@ use borrow.Author.Needs.{needs}
 use Rattle.report.proofs.print_too_long.Statement.{statement}
 use Rattle.report.proofs.print_too_long.Tie as tie
 
-write-too-long-requires : tie.Need-write-too-long-requires
-write-too-long-requires c κs = search needs
-
 array-share-prefix-text : tie.Need-array-share-prefix-text
 array-share-prefix-text c = let w = c .write-too-long in text-within (line refusedWord 1) _ (w .ensures .0) (w .ensures .1 .0)
 
 slice-aggregate-print : tie.Need-slice-aggregate-print
 slice-aggregate-print c = let w = c .before .write-too-long in start-length _ _ (text-within (line refusedWord 1) _ (w .ensures .0) (w .ensures .1 .0))
 
-print-requires : tie.Need-print-requires
-print-requires c κs = search needs
-
-returns : tie.Need-returns
-returns c = search needs
-
 pub print-too-long-spec : {M : Type 1} → statement M
 print-too-long-spec =
     tie.close
     (tie.spec
-    write-too-long-requires
+    (λ c κs. search needs)
     array-share-prefix-text
     slice-aggregate-print
-    print-requires
-    returns)
+    (λ c κs. search needs)
+    (λ c. search needs))

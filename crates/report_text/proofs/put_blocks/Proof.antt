@@ -21,15 +21,6 @@ loop-holds c =
     let s = c .before .before in
     rw (lines-all (s .args .image .now)) (left-start (s .pre .1))
 
-next-live-requires : tie.Need-next-live-requires Inv-loop μ-loop
-next-live-requires c κs = search needs
-
-enum-known-n : tie.Need-enum-known-n Inv-loop μ-loop
-enum-known-n c = search needs
-
-enum-told : tie.Need-enum-told Inv-loop μ-loop
-enum-told c = search needs
-
 same-length : tie.Need-same-length Inv-loop μ-loop
 same-length c = c .before .before .before .loop .inv .same-length
 
@@ -39,9 +30,6 @@ returns c =
     let l = r .before in
     let s = l .before .before .before in
     none-left _ (s .args .partition) (l .loop .from) (s .pre .0) _ (r .next-live .ensures) (l .loop .inv) (c .enum-told .given .1)
-
-slice-aggregate-put-line : tie.Need-slice-aggregate-put-line Inv-loop μ-loop
-slice-aggregate-put-line c = search needs
 
 put-line-requires : tie.Need-put-line-requires Inv-loop μ-loop
 put-line-requires c κs =
@@ -83,12 +71,12 @@ put-blocks-spec =
     Inv-loop
     μ-loop
     loop-holds
-    next-live-requires
-    enum-known-n
-    enum-told
+    (λ c κs. search needs)
+    (λ c. search needs)
+    (λ c. search needs)
     same-length
     returns
-    slice-aggregate-put-line
+    (λ c. search needs)
     put-line-requires
     add-from
     loop-less

@@ -5,20 +5,11 @@ use borrow.Author.Needs.{needs}
 use Rattle.report_text.proofs.put_head.Statement.{statement}
 use Rattle.report_text.proofs.put_head.Tie as tie
 
-slice-aggregate-put-line : tie.Need-slice-aggregate-put-line
-slice-aggregate-put-line c = search needs
-
 put-line-requires : tie.Need-put-line-requires
 put-line-requires c κs =
     let s = c .before .before .before in
     let k = s .args .counts in
     left-room _ _ (partition-left (s .args .partition) (k .version) (k .capacity) (k .used) (k .live) (s .pre))
-
-slice-aggregate-put-line-2 : tie.Need-slice-aggregate-put-line-2
-slice-aggregate-put-line-2 c = search needs
-
-cast-put-line : tie.Need-cast-put-line
-cast-put-line c = search needs
 
 put-line-requires-2 : tie.Need-put-line-requires-2
 put-line-requires-2 c κs =
@@ -27,9 +18,6 @@ put-line-requires-2 c κs =
     let k = s .args .counts in
     left-room _ _ (version-left (s .args .partition) (k .version) (k .capacity) (k .used) (k .live) (s .pre) (w .put-line .ensures))
 
-slice-aggregate-put-line-3 : tie.Need-slice-aggregate-put-line-3
-slice-aggregate-put-line-3 c = search needs
-
 put-line-requires-3 : tie.Need-put-line-requires-3
 put-line-requires-3 c κs =
     let v = c .before .before .before .before in
@@ -37,9 +25,6 @@ put-line-requires-3 c κs =
     let s = w .before .before .before .before in
     let k = s .args .counts in
     left-room _ _ (user-left (s .args .partition) (k .version) (k .capacity) (k .used) (k .live) (s .pre) (w .put-line .ensures) (v .put-line2 .ensures))
-
-slice-aggregate-put-line-4 : tie.Need-slice-aggregate-put-line-4
-slice-aggregate-put-line-4 c = search needs
 
 put-line-requires-4 : tie.Need-put-line-requires-4
 put-line-requires-4 c κs =
@@ -50,9 +35,6 @@ put-line-requires-4 c κs =
     let k = s .args .counts in
     left-room _ _ (used-left (s .args .partition) (k .version) (k .capacity) (k .used) (k .live) (s .pre) (w .put-line .ensures) (v .put-line2 .ensures) (u .put-line3 .ensures))
 
-slice-aggregate-put-line-5 : tie.Need-slice-aggregate-put-line-5
-slice-aggregate-put-line-5 c = search needs
-
 put-line-requires-5 : tie.Need-put-line-requires-5
 put-line-requires-5 c κs =
     let t = c .before .before .before .before in
@@ -62,9 +44,6 @@ put-line-requires-5 c κs =
     let s = w .before .before .before .before in
     let k = s .args .counts in
     live-left (s .args .partition) (k .version) (k .capacity) (k .used) (k .live) (s .pre) (w .put-line .ensures) (v .put-line2 .ensures) (u .put-line3 .ensures) (t .put-line4 .ensures) .fits
-
-same-length : tie.Need-same-length
-same-length c = search needs
 
 returns : tie.Need-returns
 returns c =
@@ -81,16 +60,16 @@ pub put-head-spec : {M : Type 1} → statement M
 put-head-spec =
     tie.close
     (tie.spec
-    slice-aggregate-put-line
+    (λ c. search needs)
     put-line-requires
-    slice-aggregate-put-line-2
-    cast-put-line
+    (λ c. search needs)
+    (λ c. search needs)
     put-line-requires-2
-    slice-aggregate-put-line-3
+    (λ c. search needs)
     put-line-requires-3
-    slice-aggregate-put-line-4
+    (λ c. search needs)
     put-line-requires-4
-    slice-aggregate-put-line-5
+    (λ c. search needs)
     put-line-requires-5
-    same-length
+    (λ c. search needs)
     returns)

@@ -7,21 +7,6 @@ use borrow.Author.Needs.{needs}
 use Rattle.report_text.proofs.write_report.Statement.{statement}
 use Rattle.report_text.proofs.write_report.Tie as tie
 
-partition-for-requires : tie.Need-partition-for-requires
-partition-for-requires c κs = search needs
-
-report-requires : tie.Need-report-requires
-report-requires c κs = search needs
-
-enum-known-refused : tie.Need-enum-known-refused
-enum-known-refused c = search needs
-
-slice-aggregate-put-line : tie.Need-slice-aggregate-put-line
-slice-aggregate-put-line c = search needs
-
-cast-put-line : tie.Need-cast-put-line
-cast-put-line c = search needs
-
 put-line-requires : tie.Need-put-line-requires
 put-line-requires c κs =
     let k = c .before .before .before in
@@ -30,9 +15,6 @@ put-line-requires c κs =
     let s = p .before .before in
     let long : length (s .args .out .now) ≡ 12288 = search needs in
     refused-left _ (s .args .image .now) _ long (p .partition-for .ensures) _ (r .report .ensures) (k .refused .given .1) .fits
-
-enum-known-counts : tie.Need-enum-known-counts
-enum-known-counts c = search needs
 
 put-head-requires : tie.Need-put-head-requires
 put-head-requires c κs =
@@ -52,9 +34,6 @@ put-blocks-requires c κs =
     let s = p .before .before in
     let long : length (s .args .out .now) ≡ 12288 = search needs in
     (counted-passed _ _ _ (r .report .ensures) (k .counts .given .1), left-room _ _ (blocks-left _ (s .args .image .now) _ long (p .partition-for .ensures) _ (r .report .ensures) (k .counts .given .1) (h .put-head .ensures)))
-
-slice-aggregate-put-text : tie.Need-slice-aggregate-put-text
-slice-aggregate-put-text c = search needs
 
 put-text-requires : tie.Need-put-text-requires
 put-text-requires c κs =
@@ -91,16 +70,16 @@ pub write-report-spec : {M : Type 1} → statement M
 write-report-spec =
     tie.close
     (tie.spec
-    partition-for-requires
-    report-requires
-    enum-known-refused
-    slice-aggregate-put-line
-    cast-put-line
+    (λ c κs. search needs)
+    (λ c κs. search needs)
+    (λ c. search needs)
+    (λ c. search needs)
+    (λ c. search needs)
     put-line-requires
-    enum-known-counts
+    (λ c. search needs)
     put-head-requires
     put-blocks-requires
-    slice-aggregate-put-text
+    (λ c. search needs)
     put-text-requires
     returns
     returns-2)

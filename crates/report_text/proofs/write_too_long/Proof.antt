@@ -6,9 +6,6 @@ use borrow.Author.Needs.{needs}
 use Rattle.report_text.proofs.write_too_long.Statement.{statement}
 use Rattle.report_text.proofs.write_too_long.Tie as tie
 
-slice-aggregate-put-line : tie.Need-slice-aggregate-put-line
-slice-aggregate-put-line c = search needs
-
 put-line-requires : tie.Need-put-line-requires
 put-line-requires c κs =
     let s = c .before .before in
@@ -19,4 +16,4 @@ returns : tie.Need-returns
 returns c = let w = long-written (c .put-line .ensures) in (w .0, (w .1, long-text))
 
 pub write-too-long-spec : {M : Type 1} → statement M
-write-too-long-spec = tie.close (tie.spec slice-aggregate-put-line put-line-requires returns)
+write-too-long-spec = tie.close (tie.spec (λ c. search needs) put-line-requires returns)

@@ -12,37 +12,16 @@ Inv-loop image sum₀ i₀ i-end sum i = (i ≤ i-end) × (i-end ≡ length imag
 abbrev μ-loop : tie.MeasureT-loop
 μ-loop image sum₀ i₀ i-end sum i = i-end - i
 
-loop-holds : tie.Need-loop-holds Inv-loop μ-loop
-loop-holds c = search needs
-
-shared-slice-read-adler-step : tie.Need-shared-slice-read-adler-step Inv-loop μ-loop
-shared-slice-read-adler-step c = search needs
-
-adler-step-requires : tie.Need-adler-step-requires Inv-loop μ-loop
-adler-step-requires c κs = search needs
-
-add-i : tie.Need-add-i Inv-loop μ-loop
-add-i c = search needs
-
-loop-less : tie.Need-loop-less Inv-loop μ-loop
-loop-less c = search needs
-
-loop-again : tie.Need-loop-again Inv-loop μ-loop
-loop-again c = search needs
-
-returns : tie.Need-returns Inv-loop μ-loop
-returns c = search needs
-
 pub adler-spec : {M : Type 1} → statement M
 adler-spec =
     tie.close
     (tie.spec
     Inv-loop
     μ-loop
-    loop-holds
-    shared-slice-read-adler-step
-    adler-step-requires
-    add-i
-    loop-less
-    loop-again
-    returns)
+    (λ c. search needs)
+    (λ c. search needs)
+    (λ c κs. search needs)
+    (λ c. search needs)
+    (λ c. search needs)
+    (λ c. search needs)
+    (λ c. search needs))

@@ -4,12 +4,9 @@ use borrow.Author.Needs.{needs}
 use Rattle.card_directory.proofs.entry.header_offset.Statement.{statement}
 use Rattle.card_directory.proofs.entry.header_offset.Tie as tie
 
-word-requires : tie.Need-word-requires
-word-requires c κs = search needs
-
 returns : tie.Need-returns
 unfolding headerOffset
 returns c = c .word .ensures .0
 
 pub header-offset-spec : {M : Type 1} → statement M
-header-offset-spec = tie.close (tie.spec word-requires returns)
+header-offset-spec = tie.close (tie.spec (λ c κs. search needs) returns)

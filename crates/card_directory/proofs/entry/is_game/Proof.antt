@@ -5,12 +5,9 @@ use borrow.Author.Needs.{needs}
 use Rattle.card_directory.proofs.entry.is_game.Statement.{statement}
 use Rattle.card_directory.proofs.entry.is_game.Tie as tie
 
-shared-slice-read-result : tie.Need-shared-slice-read-result
-shared-slice-read-result c = search needs
-
 returns : tie.Need-returns
 unfolding isGame kind
 returns c = refl
 
 pub is-game-spec : {M : Type 1} → statement M
-is-game-spec = tie.close (tie.spec shared-slice-read-result returns)
+is-game-spec = tie.close (tie.spec (λ c. search needs) returns)

@@ -5,12 +5,9 @@ use borrow.Author.Needs.{needs}
 use Rattle.card_directory.proofs.entry.is_used.Statement.{statement}
 use Rattle.card_directory.proofs.entry.is_used.Tie as tie
 
-shared-slice-read-result : tie.Need-shared-slice-read-result
-shared-slice-read-result c = search needs
-
 returns : tie.Need-returns
 unfolding isUsed kind
 returns c = refl
 
 pub is-used-spec : {M : Type 1} → statement M
-is-used-spec = tie.close (tie.spec shared-slice-read-result returns)
+is-used-spec = tie.close (tie.spec (λ c. search needs) returns)

@@ -4,12 +4,9 @@ use borrow.Author.Needs.{needs}
 use Rattle.card_directory.proofs.entry.size.Statement.{statement}
 use Rattle.card_directory.proofs.entry.size.Tie as tie
 
-word-requires : tie.Need-word-requires
-word-requires c κs = search needs
-
 returns : tie.Need-returns
 unfolding size
 returns c = c .word .ensures .0
 
 pub size-spec : {M : Type 1} → statement M
-size-spec = tie.close (tie.spec word-requires returns)
+size-spec = tie.close (tie.spec (λ c κs. search needs) returns)

@@ -6,24 +6,6 @@ use Rattle.checksum.proofs.FourLaws.{four-last}
 use Rattle.checksum.proofs.block.last.Statement.{statement}
 use Rattle.checksum.proofs.block.last.Tie as tie
 
-fold128-requires : tie.Need-fold128-requires
-fold128-requires c κs = search needs
-
-fold128-requires-2 : tie.Need-fold128-requires-2
-fold128-requires-2 c κs = search needs
-
-swap-requires : tie.Need-swap-requires
-swap-requires c κs = search needs
-
-fold64-requires : tie.Need-fold64-requires
-fold64-requires c κs = search needs
-
-swap-requires-2 : tie.Need-swap-requires-2
-swap-requires-2 c κs = search needs
-
-remainder-requires : tie.Need-remainder-requires
-remainder-requires c κs = search needs
-
 returns : tie.Need-returns
 returns c =
     let swapped = c .before in
@@ -41,4 +23,4 @@ returns c =
 pub last-spec : {M : Type 1} → statement M
 last-spec =
     tie.close
-    (tie.spec fold128-requires fold128-requires-2 swap-requires fold64-requires swap-requires-2 remainder-requires returns)
+    (tie.spec (λ c κs. search needs) (λ c κs. search needs) (λ c κs. search needs) (λ c κs. search needs) (λ c κs. search needs) (λ c κs. search needs) returns)

@@ -12,25 +12,10 @@ use Rattle.checksum.proofs.RemainderLaws.{rem-small, rem-xor, halves}
 use Rattle.checksum.proofs.folding.remainder.Statement.{statement}
 use Rattle.checksum.proofs.folding.remainder.Tie as tie
 
-cast-fold32 : tie.Need-cast-fold32
-cast-fold32 c = search needs
-
-fold32-requires : tie.Need-fold32-requires
-fold32-requires c κs = search needs
-
-cast-h : tie.Need-cast-h
-cast-h c = search needs
-
 cast-fold16 : tie.Need-cast-fold16
 cast-fold16 c =
     let h : bitXor (c .fold32 .result) (c .before .args .a % 4294967296) < 4294967296 = xor-lt 32 (c .fold32 .result) (c .before .args .a % 4294967296) (search needs) (omega arith) in
     omega arith
-
-fold16-requires : tie.Need-fold16-requires
-fold16-requires c κs = search needs
-
-cast-result : tie.Need-cast-result
-cast-result c = search needs
 
 returns : tie.Need-returns
 returns c =
@@ -48,4 +33,4 @@ returns c =
 pub remainder-spec : {M : Type 1} → statement M
 remainder-spec =
     tie.close
-    (tie.spec cast-fold32 fold32-requires cast-h cast-fold16 fold16-requires cast-result returns)
+    (tie.spec (λ c. search needs) (λ c κs. search needs) (λ c. search needs) cast-fold16 (λ c κs. search needs) (λ c. search needs) returns)

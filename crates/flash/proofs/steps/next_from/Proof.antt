@@ -6,15 +6,6 @@ use borrow.Author.Needs.{needs}
 use Rattle.flash.proofs.steps.next_from.Statement.{statement}
 use Rattle.flash.proofs.steps.next_from.Tie as tie
 
-next-number-requires : tie.Need-next-number-requires
-next-number-requires c κs = search needs
-
-enum-known-n : tie.Need-enum-known-n
-enum-known-n c = search needs
-
-enum-told : tie.Need-enum-told
-enum-told c = search needs
-
 returns : tie.Need-returns
 returns c =
     let a = c .before .before .before .before .before .args in
@@ -26,4 +17,4 @@ returns-2 c =
     next-missing (lowestLive (a .image .now) (a .from)) (sym (c .before .before .next-number .ensures) ∙ c .enum-told .given .1)
 
 pub next-from-spec : {M : Type 1} → statement M
-next-from-spec = tie.close (tie.spec next-number-requires enum-known-n enum-told returns returns-2)
+next-from-spec = tie.close (tie.spec (λ c κs. search needs) (λ c. search needs) (λ c. search needs) returns returns-2)

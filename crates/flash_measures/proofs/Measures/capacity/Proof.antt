@@ -8,9 +8,6 @@ use Rattle.flash_model.proofs.MeasureLaws.{measures-of}
 use Rattle.flash_measures.proofs.Measures.capacity.Statement.{statement}
 use Rattle.flash_measures.proofs.Measures.capacity.Tie as tie
 
-first-bitmap-requires : tie.Need-first-bitmap-requires
-first-bitmap-requires c κs = search needs
-
 sub-result : tie.Need-sub-result
 sub-result c = omega (arith, measures-of _ (c .before .pre) .first-bitmap, c .first-bitmap .ensures)
 
@@ -19,4 +16,4 @@ unfolding capacity
 returns c = ap (λ (n : ℕ). n - 1) (c .first-bitmap .ensures)
 
 pub capacity-spec : {M : Type 1} → statement M
-capacity-spec = tie.close (tie.spec first-bitmap-requires sub-result returns)
+capacity-spec = tie.close (tie.spec (λ c κs. search needs) sub-result returns)

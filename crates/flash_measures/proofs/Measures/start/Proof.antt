@@ -10,8 +10,5 @@ mul-result c =
     let m = measures-of _ (c .pre .0) in
     omega (arith, c .pre .1, m .first-bitmap, m .whole, m .bounded)
 
-returns : tie.Need-returns
-returns c = search needs
-
 pub start-spec : {M : Type 1} → statement M
-start-spec = tie.close (tie.spec mul-result returns)
+start-spec = tie.close (tie.spec mul-result (λ c. search needs))

@@ -24,21 +24,6 @@ loop-holds c =
     let none-yet : a .k ≡ a .k - 0 = omega arith in
     (omega arith, λ e. ap (foundUpTo (a .image .now) (a .number)) none-yet)
 
-sub-part-from : tie.Need-sub-part-from Inv-loop μ-loop
-sub-part-from c = search needs
-
-part-from-requires : tie.Need-part-from-requires Inv-loop μ-loop
-part-from-requires c κs = search needs
-
-word-requires : tie.Need-word-requires Inv-loop μ-loop
-word-requires c κs = search needs
-
-add-j : tie.Need-add-j Inv-loop μ-loop
-add-j c = search needs
-
-loop-less : tie.Need-loop-less Inv-loop μ-loop
-loop-less c = search needs
-
 loop-again : tie.Need-loop-again Inv-loop μ-loop
 loop-again c =
     let t = c .before .before in
@@ -70,10 +55,10 @@ any-of-eight-spec =
     Inv-loop
     μ-loop
     loop-holds
-    sub-part-from
-    part-from-requires
-    word-requires
-    add-j
-    loop-less
+    (λ c. search needs)
+    (λ c κs. search needs)
+    (λ c κs. search needs)
+    (λ c. search needs)
+    (λ c. search needs)
     loop-again
     returns)

@@ -43,9 +43,6 @@ part-from-requires c κs =
     let u = s .pre .0 in
     (usable-has u, omega (arith, c .before .before .before .loop .inv .0, c .before .numbered .ensures .below, count-most u))
 
-right-checksum-requires : tie.Need-right-checksum-requires Inv-loop μ-loop
-right-checksum-requires c κs = search needs
-
 returns-2 : tie.Need-returns-2 Inv-loop μ-loop
 returns-2 c =
     let f = c .before .before .before .before .numbered in
@@ -54,9 +51,6 @@ returns-2 c =
     let above : 0 < f .result = omega (arith, c .before .before .before .if1 .left) in
     let right = ap rightChecksum (sym (c .before .before .part-from .ensures .0)) ∙ sym (c .before .right-checksum .ensures) ∙ c .if2 .taken in
     sym (l .inv .1 ∙ f .ensures .same ∙ found-here (a .image .now) (a .number) (f .result) above (ap₂ _&&_ (f .ensures .has-number above) right))
-
-sub-k : tie.Need-sub-k Inv-loop μ-loop
-sub-k c = search needs
 
 loop-less : tie.Need-loop-less Inv-loop μ-loop
 loop-less c =
@@ -90,9 +84,9 @@ find-spec =
     numbered-requires
     returns
     part-from-requires
-    right-checksum-requires
+    (λ c κs. search needs)
     returns-2
-    sub-k
+    (λ c. search needs)
     loop-less
     loop-again
     returns-3)

@@ -15,17 +15,8 @@ Inv-loop image m top number k₀ k = (k ≤ top) × (foundUpTo image number top 
 abbrev μ-loop : tie.MeasureT-loop
 μ-loop image m top number k₀ k = k
 
-pass-eights-requires : tie.Need-pass-eights-requires Inv-loop μ-loop
-pass-eights-requires c κs = search needs
-
 loop-holds : tie.Need-loop-holds Inv-loop μ-loop
 loop-holds c = c .pass-eights .ensures
-
-part-from-requires : tie.Need-part-from-requires Inv-loop μ-loop
-part-from-requires c κs = search needs
-
-word-requires : tie.Need-word-requires Inv-loop μ-loop
-word-requires c κs = search needs
 
 returns : tie.Need-returns Inv-loop μ-loop
 returns c =
@@ -38,12 +29,6 @@ returns c =
       same = l .inv .1;
       has-number = λ h. has-number-test (a .image .now) (a .number) (l .k) (part .result .now) (part .ensures .0) (w .result) (w .ensures .0) (eq-eqb (w .result) (a .number) (c .if1 .taken));
     }
-
-sub-k : tie.Need-sub-k Inv-loop μ-loop
-sub-k c = search needs
-
-loop-less : tie.Need-loop-less Inv-loop μ-loop
-loop-less c = search needs
 
 loop-again : tie.Need-loop-again Inv-loop μ-loop
 loop-again c =
@@ -73,12 +58,12 @@ numbered-spec =
     (tie.spec
     Inv-loop
     μ-loop
-    pass-eights-requires
+    (λ c κs. search needs)
     loop-holds
-    part-from-requires
-    word-requires
+    (λ c κs. search needs)
+    (λ c κs. search needs)
     returns
-    sub-k
-    loop-less
+    (λ c. search needs)
+    (λ c. search needs)
     loop-again
     returns-2)

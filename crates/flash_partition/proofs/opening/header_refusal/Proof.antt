@@ -9,29 +9,14 @@ use borrow.Author.Needs.{needs}
 use Rattle.flash_partition.proofs.opening.header_refusal.Statement.{statement}
 use Rattle.flash_partition.proofs.opening.header_refusal.Tie as tie
 
-legal-size-requires : tie.Need-legal-size-requires
-legal-size-requires c κs = search needs
-
 returns : tie.Need-returns
 unfolding headerRefusal lengthRow headerRows
 returns c = rw (sym (c .before .legal-size .ensures) ∙ not-true _ (c .if1 .taken))
-
-sub-same : tie.Need-sub-same
-sub-same c = search needs
-
-part-same-start : tie.Need-part-same-start
-part-same-start c = search needs
 
 part-same-end : tie.Need-part-same-end
 part-same-end c =
     let m = measures-of _ (sym (c .before .legal-size .ensures) ∙ not-false _ (c .if1 .left)) in
     omega (arith, m .whole, m .top-number)
-
-slice-aggregate-same : tie.Need-slice-aggregate-same
-slice-aggregate-same c = search needs
-
-same-requires : tie.Need-same-requires
-same-requires c κs = search needs
 
 returns-2 : tie.Need-returns-2
 unfolding headerRefusal lengthRow headerRows magic
@@ -63,13 +48,13 @@ pub header-refusal-spec : {M : Type 1} → statement M
 header-refusal-spec =
     tie.close
     (tie.spec
-    legal-size-requires
+    (λ c κs. search needs)
     returns
-    sub-same
-    part-same-start
+    (λ c. search needs)
+    (λ c. search needs)
     part-same-end
-    slice-aggregate-same
-    same-requires
+    (λ c. search needs)
+    (λ c κs. search needs)
     returns-2
     shared-slice-read-if3
     returns-3

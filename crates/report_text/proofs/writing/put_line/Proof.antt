@@ -32,9 +32,6 @@ put-byte-requires-2 c κs =
     let s = t .before .before .before .before in
     end-left _ _ (s .pre) (t .put-text .ensures) (b .put-byte .ensures) (d .put-decimal .ensures) .fits
 
-same-length : tie.Need-same-length
-same-length c = search needs
-
 returns : tie.Need-returns
 returns c =
     let e = c .before .before in
@@ -52,5 +49,5 @@ put-line-spec =
     put-byte-requires
     put-decimal-requires
     put-byte-requires-2
-    same-length
+    (λ c. search needs)
     returns)

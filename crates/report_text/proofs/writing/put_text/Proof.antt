@@ -5,28 +5,10 @@ use borrow.Author.Needs.{needs}
 use Rattle.report_text.proofs.writing.put_text.Statement.{statement}
 use Rattle.report_text.proofs.writing.put_text.Tie as tie
 
-add-end : tie.Need-add-end
-add-end c = search needs
-
-sub-copy : tie.Need-sub-copy
-sub-copy c = search needs
-
-part-copy-start : tie.Need-part-copy-start
-part-copy-start c = search needs
-
-part-copy-end : tie.Need-part-copy-end
-part-copy-end c = search needs
-
-copy-requires : tie.Need-copy-requires
-copy-requires c κs = search needs
-
-same-length : tie.Need-same-length
-same-length c = search needs
-
 returns : tie.Need-returns
 returns c = let s = c .before .before .before .before .before .before in part-written _ _ _ (s .args .at) _ refl (s .pre) (c .before .before .copy .ensures .1)
 
 pub put-text-spec : {M : Type 1} → statement M
 put-text-spec =
     tie.close
-    (tie.spec add-end sub-copy part-copy-start part-copy-end copy-requires same-length returns)
+    (tie.spec (λ c. search needs) (λ c. search needs) (λ c. search needs) (λ c. search needs) (λ c κs. search needs) (λ c. search needs) returns)

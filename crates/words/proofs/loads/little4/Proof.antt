@@ -7,39 +7,6 @@ use Rattle.words.proofs.LittleLaws.{little-one, little-join}
 use Rattle.words.proofs.loads.little4.Statement.{statement}
 use Rattle.words.proofs.loads.little4.Tie as tie
 
-shared-slice-read-byte-word : tie.Need-shared-slice-read-byte-word
-shared-slice-read-byte-word c = search needs
-
-byte-word-requires : tie.Need-byte-word-requires
-byte-word-requires c κs = search needs
-
-add-byte-word : tie.Need-add-byte-word
-add-byte-word c = search needs
-
-shared-slice-read-byte-word-2 : tie.Need-shared-slice-read-byte-word-2
-shared-slice-read-byte-word-2 c = search needs
-
-byte-word-requires-2 : tie.Need-byte-word-requires-2
-byte-word-requires-2 c κs = search needs
-
-add-byte-word-2 : tie.Need-add-byte-word-2
-add-byte-word-2 c = search needs
-
-shared-slice-read-byte-word-3 : tie.Need-shared-slice-read-byte-word-3
-shared-slice-read-byte-word-3 c = search needs
-
-byte-word-requires-3 : tie.Need-byte-word-requires-3
-byte-word-requires-3 c κs = search needs
-
-add-byte-word-3 : tie.Need-add-byte-word-3
-add-byte-word-3 c = search needs
-
-shared-slice-read-byte-word-4 : tie.Need-shared-slice-read-byte-word-4
-shared-slice-read-byte-word-4 c = search needs
-
-byte-word-requires-4 : tie.Need-byte-word-requires-4
-byte-word-requires-4 c κs = search needs
-
 returns : tie.Need-returns
 returns c =
     let a = c .before .before .before .before .before .before .byte-word in
@@ -53,4 +20,4 @@ returns c =
     little-join 32 3 1 (lit≤ tt) (little-join 32 2 1 (lit≤ tt) (little-join 32 1 1 (lit≤ tt) first second) third) fourth
 
 pub little4-spec : {M : Type 1} → statement M
-little4-spec = tie.close (tie.spec shared-slice-read-byte-word byte-word-requires add-byte-word shared-slice-read-byte-word-2 byte-word-requires-2 add-byte-word-2 shared-slice-read-byte-word-3 byte-word-requires-3 add-byte-word-3 shared-slice-read-byte-word-4 byte-word-requires-4 returns)
+little4-spec = tie.close (tie.spec (λ c. search needs) (λ c κs. search needs) (λ c. search needs) (λ c. search needs) (λ c κs. search needs) (λ c. search needs) (λ c. search needs) (λ c κs. search needs) (λ c. search needs) (λ c. search needs) (λ c κs. search needs) returns)

@@ -5,11 +5,8 @@ use Rattle.words.proofs.LittleLaws.{without-two}
 use Rattle.words.proofs.loads.little6_of8.Statement.{statement}
 use Rattle.words.proofs.loads.little6_of8.Tie as tie
 
-little8-requires : tie.Need-little8-requires
-little8-requires c κs = search needs
-
 returns : tie.Need-returns
 returns c = without-two (c .little8 .ensures)
 
 pub little6-of8-spec : {M : Type 1} → statement M
-little6-of8-spec = tie.close (tie.spec little8-requires returns)
+little6-of8-spec = tie.close (tie.spec (λ c κs. search needs) returns)
