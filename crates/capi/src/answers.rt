@@ -5,7 +5,7 @@ use verdicts::Place;
 use verdicts::Verdict;
 ghost use mathlib.Core.Path.{_≡_};
 ghost use Rattle.verdicts.specs.Rows.{placeNumber};
-ghost use Rattle.flash.specs.Answers.{listed, nextAnswer};
+ghost use Rattle.flash.specs.Answers.{reportAnswer, nextAnswer};
 ghost use Rattle.capi.specs.Structs.{reportOf, nextLiveOf, cardVerdictOf, kindOf};
 
 #[repr(C)]
@@ -55,7 +55,7 @@ pub struct CardVerdictAnswer {
 }
 
 pub fn report_answer(summary: Summary) -> ReportAnswer
-    ensures { λ r. ⌜ r ≡ reportOf (listed summary) ⌝ }
+    ensures { λ r. ⌜ r ≡ reportOf (reportAnswer summary) ⌝ }
 {
     match summary {
         Summary::Refused(refused) => ReportAnswer {
@@ -83,7 +83,7 @@ pub fn next_live_answer(next: LiveNumber) -> NextLiveAnswer
             code: refused as u64,
             number: 0,
         },
-        LiveNumber::Number(number) => NextLiveAnswer {
+        LiveNumber::Hit(number) => NextLiveAnswer {
             code: 0,
             number: number as u64,
         },

@@ -15,7 +15,7 @@ use answers::report_answer;
 ghost use mathlib.Core.Path.{_≡_};
 ghost use mathlib.Core.List.{[], _∷_};
 ghost use Rattle.flash_model.specs.Calls.{Answered, replyTo, Call.onPage, Call.onWhole, PageCall.read, PageCall.save, WholeCall.check, WholeCall.report, WholeCall.nextLive, WholeCall.erase};
-ghost use Rattle.flash.specs.Answers.{numbered};
+ghost use Rattle.flash.specs.Answers.{codeAnswer};
 ghost use Rattle.card_model.specs.Calls.{checkOf, listOf, readVerdict, readBuffer};
 ghost use Rattle.capi.specs.Interface.{interfaceVersion};
 ghost use Rattle.capi.specs.Structs.{reportOf, nextLiveOf, cardCheckOf, cardEntryOf, cardVerdictOf};
@@ -31,7 +31,7 @@ pub extern "C" fn galtuyeg_version() -> u32
 
 #[no_mangle]
 pub extern "C" fn galtuyeg_flash_check(image: &[u8], partition: u8) -> u32
-    ensures { λ r. ⌜ Answered (now (image .entry)) (onWhole (check partition)) (now (image .entry)) (numbered r []) ⌝ }
+    ensures { λ r. ⌜ Answered (now (image .entry)) (onWhole (check partition)) (now (image .entry)) (codeAnswer r []) ⌝ }
 {
     flash::check(image, partition) as u32
 }
@@ -57,7 +57,7 @@ pub extern "C" fn galtuyeg_flash_read(
     number: u64,
     page: &mut [u8],
 ) -> u32
-    ensures { λ r. ⌜ Answered (now (image .entry)) (onPage (read partition number (now (page .entry)))) (now (image .entry)) (numbered r (now (page .exit) ∷ [])) ⌝ }
+    ensures { λ r. ⌜ Answered (now (image .entry)) (onPage (read partition number (now (page .entry)))) (now (image .entry)) (codeAnswer r (now (page .exit) ∷ [])) ⌝ }
 {
     flash::read(image, partition, number as usize, page) as u32
 }
@@ -70,14 +70,14 @@ pub extern "C" fn galtuyeg_flash_save(
     expected: &[u8],
     page: &[u8],
 ) -> u32
-    ensures { λ r. ⌜ Answered (now (image .entry)) (onPage (save partition number (now (expected .entry)) (now (page .entry)))) (now (image .exit)) (numbered r (now (expected .entry) ∷ now (page .entry) ∷ [])) ⌝ }
+    ensures { λ r. ⌜ Answered (now (image .entry)) (onPage (save partition number (now (expected .entry)) (now (page .entry)))) (now (image .exit)) (codeAnswer r (now (expected .entry) ∷ now (page .entry) ∷ [])) ⌝ }
 {
     flash::save(image, partition, number as usize, expected, page) as u32
 }
 
 #[no_mangle]
 pub extern "C" fn galtuyeg_flash_erase(image: &mut [u8], partition: u8) -> u32
-    ensures { λ r. ⌜ Answered (now (image .entry)) (onWhole (erase partition)) (now (image .exit)) (numbered r []) ⌝ }
+    ensures { λ r. ⌜ Answered (now (image .entry)) (onWhole (erase partition)) (now (image .exit)) (codeAnswer r []) ⌝ }
 {
     flash::erase(image, partition) as u32
 }

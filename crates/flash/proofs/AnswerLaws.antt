@@ -20,11 +20,11 @@ use Rattle.flash_model.proofs.SoundLaws.{unrefused-sound}
 use Rattle.flash_model.proofs.CodeLaws.{read-rows}
 use Rattle.flash_model.proofs.Demand2Laws.{refused-first}
 use Rattle.flash_partition.specs.Usable.{Usable}
-use Rattle.flash_partition.specs.Opening.{logOf, openingOf}
-use Rattle.flash_partition.specs.declared.opening.Log.{Log}
+use Rattle.flash_partition.specs.OpenAnswers.{logOf, openingOf}
+use Rattle.flash_partition.specs.declared.opening.OpenedLog.{OpenedLog}
 use Rattle.flash_partition.specs.declared.opening.Opened.the-variants as opening
 use Rattle.flash_pages.specs.Rows.{orBuffer, readBuffer}
-use Rattle.flash.specs.Answers.{numbered, listed, nextAnswer, countsOf, nextOf}
+use Rattle.flash.specs.Answers.{codeAnswer, reportAnswer, nextAnswer, countsOf, nextOf}
 use Rattle.flash.specs.declared.Counts.{Counts}
 use Rattle.flash.specs.declared.Summary.the-variants as summaries
 use Rattle.flash.specs.declared.LiveNumber.{LiveNumber}
@@ -36,29 +36,29 @@ unfolding openingOf
 opened-refused image partition n e = go (eqb (refusal image partition) 0) refl e
   where
     go : (t : Bool) → eqb (refusal image partition) 0 ≡ t
-        → cond t (opening.Open (logOf image)) (opening.Refused (refusal image partition)) ≡ opening.Refused n
+        → cond t (opening.Ready (logOf image)) (opening.Refused (refusal image partition)) ≡ opening.Refused n
         → (refusal image partition ≡ n) × (n ≢ 0)
     go true q f = let z : _≡_ {A = ℕ} 0 1 = cc in absurd (omega arith)
     go false q f = let z : refusal image partition ≡ n = cc in (z, λ w. eqb-false (refusal image partition) 0 q (z ∙ w))
 
 -- the image is no longer refused by them, and the log is of it
-pub record PastOpening (image : List ℕ) (partition : ℕ) (log : Log) : Type 0 where
+pub record PastOpening (image : List ℕ) (partition : ℕ) (log : OpenedLog) : Type 0 where
   pub unrefused : refusal image partition ≡ 0
-  pub usable : Usable image log
+  pub is-usable : Usable image log
 
-pub opened : (image : List ℕ) (partition : ℕ) (log : Log) → openingOf image partition ≡ opening.Open log → PastOpening image partition log
+pub past-opening : (image : List ℕ) (partition : ℕ) (log : OpenedLog) → openingOf image partition ≡ opening.Ready log → PastOpening image partition log
 unfolding openingOf logOf
-opened image partition log e = go (eqb (refusal image partition) 0) refl e
+past-opening image partition log e = go (eqb (refusal image partition) 0) refl e
   where
     go : (t : Bool) → eqb (refusal image partition) 0 ≡ t
-        → cond t (opening.Open (logOf image)) (opening.Refused (refusal image partition)) ≡ opening.Open log
+        → cond t (opening.Ready (logOf image)) (opening.Refused (refusal image partition)) ≡ opening.Ready log
         → PastOpening image partition log
     go true q f =
         let z = eqb-true (refusal image partition) 0 q in
         let l : logOf image ≡ log = cc in
         record {
           unrefused = z;
-          usable = subst (Usable image) l (record { has-size = refl; is-sound = unrefused-sound image partition z; used-is = refl });
+          is-usable = subst (Usable image) l (record { has-size = refl; is-sound = unrefused-sound image partition z; used-is = refl });
         }
     go false q f = let z : _≡_ {A = ℕ} 0 1 = cc in absurd (omega arith)
 
@@ -81,15 +81,15 @@ module _ (image : List ℕ) (c : Call) where
 -- ---- past rows 1 to 5
 
 module _ (image : List ℕ) (partition : ℕ) (passed : refusal image partition ≡ 0) where
-  pub check-done : Answered image (onWhole (check partition)) image (numbered 0 [])
+  pub check-done : Answered image (onWhole (check partition)) image (codeAnswer 0 [])
   unfolding codeOf
   check-done = answer-done image (onWhole (check partition)) passed
 
-  pub report-done : (r : Counts) → r ≡ countsOf image → Answered image (onWhole (report partition)) image (listed (summaries.Counted r))
+  pub report-done : (r : Counts) → r ≡ countsOf image → Answered image (onWhole (report partition)) image (reportAnswer (summaries.Counted r))
   unfolding codeOf countsOf
   report-done r e = rw e (answer-done image (onWhole (report partition)) passed)
 
-  pub erase-done : (image′ : List ℕ) → image′ ≡ erased image → Answered image (onWhole (erase partition)) image′ (numbered 0 [])
+  pub erase-done : (image′ : List ℕ) → image′ ≡ erased image → Answered image (onWhole (erase partition)) image′ (codeAnswer 0 [])
   unfolding codeOf
   erase-done image′ e = rw e (answer-done image (onWhole (erase partition)) passed)
 
@@ -108,7 +108,7 @@ module _ (image : List ℕ) (partition : ℕ) (passed : refusal image partition 
     read-code = rw passed
 
     pub read-done : (code : ℕ) (left : List ℕ) → code ≡ readRows image n buffer → left ≡ readBuffer image n buffer
-        → Answered image (onPage (read partition n buffer)) image (numbered code (left ∷ []))
+        → Answered image (onPage (read partition n buffer)) image (codeAnswer code (left ∷ []))
     unfolding readBuffer
     read-done code left e l = go (ℕ-discrete (readRows image n buffer) 0)
       where
@@ -116,7 +116,7 @@ module _ (image : List ℕ) (partition : ℕ) (passed : refusal image partition 
         filled none h = absurd (h refl)
         filled (some page) h = refl
 
-        go : Dec (readRows image n buffer ≡ 0) → Answered image (onPage (read partition n buffer)) image (numbered code (left ∷ []))
+        go : Dec (readRows image n buffer ≡ 0) → Answered image (onPage (read partition n buffer)) image (codeAnswer code (left ∷ []))
         go (yes z) =
             let there = read-rows image partition n buffer (read-code ∙ z) .there in
             let b : left ∷ [] ≡ toList (contents image n) = ap (λ (x : List ℕ). x ∷ []) (l ∙ rw z) ∙ filled (contents image n) there in
@@ -133,10 +133,10 @@ module _ (image : List ℕ) (partition : ℕ) (passed : refusal image partition 
 
     pub save-done : (code : ℕ) (image′ : List ℕ) → code ≡ saveRows image n expected page
         → image′ ≡ cond (eqb (saveRows image n expected page) 0) (saved image n page) image
-        → Answered image (onPage (save partition n expected page)) image′ (numbered code (expected ∷ page ∷ []))
+        → Answered image (onPage (save partition n expected page)) image′ (codeAnswer code (expected ∷ page ∷ []))
     save-done code image′ e i = go (ℕ-discrete (saveRows image n expected page) 0)
       where
-        go : Dec (saveRows image n expected page ≡ 0) → Answered image (onPage (save partition n expected page)) image′ (numbered code (expected ∷ page ∷ []))
+        go : Dec (saveRows image n expected page ≡ 0) → Answered image (onPage (save partition n expected page)) image′ (codeAnswer code (expected ∷ page ∷ []))
         go (yes z) =
             let b : image′ ≡ saved image n page = i ∙ rw z in
             rw (e ∙ z, b) (answer-done image (onPage (save partition n expected page)) (save-code ∙ z))

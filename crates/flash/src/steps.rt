@@ -1,14 +1,14 @@
 // What report and next-live answer on a partition that refusals 1 to 5 don't apply to.
 use crate::Counts;
 use crate::LiveNumber;
-use flash_listing::Next;
-use flash_partition::opening::Log;
+use flash_listing::LowestNumber;
+use flash_partition::opening::OpenedLog;
 ghost use mathlib.Core.Path.{_≡_};
 ghost use Rattle.flash_model.specs.Partition.{lowestLive};
 ghost use Rattle.flash_partition.specs.Usable.{Usable};
 ghost use Rattle.flash.specs.Answers.{countsOf, nextOf};
 
-pub(crate) fn count_blocks(image: &[u8], log: Log) -> Counts
+pub(crate) fn partition_counts(image: &[u8], log: OpenedLog) -> Counts
     requires { ⌜ Usable (now image) log ⌝ }
     ensures { λ r. ⌜ r ≡ countsOf (now (image .entry)) ⌝ }
 {
@@ -21,12 +21,12 @@ pub(crate) fn count_blocks(image: &[u8], log: Log) -> Counts
     }
 }
 
-pub(crate) fn next_from(image: &[u8], log: Log, from: usize) -> LiveNumber
+pub(crate) fn next_from(image: &[u8], log: OpenedLog, from: usize) -> LiveNumber
     requires { ⌜ Usable (now image) log ⌝ }
     ensures { λ r. ⌜ r ≡ nextOf (lowestLive (now (image .entry)) from) ⌝ }
 {
     match flash_listing::next_number(image, log, from) {
-        Next::Number(n) => LiveNumber::Number(n),
-        Next::Nothing => LiveNumber::Refused(7),
+        LowestNumber::Hit(n) => LiveNumber::Hit(n),
+        LowestNumber::Nothing => LiveNumber::Refused(7),
     }
 }

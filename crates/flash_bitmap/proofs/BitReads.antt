@@ -11,7 +11,7 @@ use Rattle.flash_model.specs.Partition.{bitmapOf, allocated}
 use Rattle.flash_model.proofs.MeasureLaws.{Measured}
 use Rattle.flash_model.proofs.ImageLaws.{bitmap-byte}
 use Rattle.flash_measures.specs.HasMeasures.{HasMeasures}
-use Rattle.flash_measures.proofs.WithinLaws.{measured}
+use Rattle.flash_measures.proofs.WithinLaws.{measures-known}
 
 pub byte-inside : (size k : ℕ) → Measured size → 1 ≤ k → k ≤ capacity size → firstBitmap size * 64 + bitByte k < size
 unfolding bitByte
@@ -23,7 +23,7 @@ place-low k = omega arith
 
 module _ {image : List ℕ} {size at : ℕ} (k : ℕ) (o : HasMeasures image size) (a : at ≡ firstBitmap size * 64 + bitByte k) where
   pub at-inside : 1 ≤ k → k ≤ capacity size → at < length image
-  at-inside lo hi = omega (arith, a, o .has-size, byte-inside size k (measured o) lo hi)
+  at-inside lo hi = omega (arith, a, o .has-size, byte-inside size k (measures-known o) lo hi)
 
   pub at-is : firstBitmap (length image) * 64 + bitByte k ≡ at
   at-is = ap (λ (n : ℕ). firstBitmap n * 64 + bitByte k) (o .has-size) ∙ sym a

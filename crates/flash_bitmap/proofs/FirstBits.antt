@@ -19,7 +19,7 @@ use Rattle.flash_model.specs.Partition.{bitmapOf}
 use Rattle.flash_model.specs.Update.{beforeBitmap, bitsCleared}
 use Rattle.flash_model.proofs.BitmapLaws.{cleared-byte, cleared-falls, first-length, first-allocated}
 use Rattle.flash_measures.specs.HasMeasures.{HasMeasures}
-use Rattle.flash_measures.proofs.WithinLaws.{measured}
+use Rattle.flash_measures.proofs.WithinLaws.{measures-known}
 use Rattle.flash_bitmap.specs.Blank.{IsBlank}
 
 -- byte i of a bitmap of FF whose first n bits are cleared: all of it, some of its high bits, or none
@@ -125,7 +125,7 @@ module _ {image : List ℕ} {size first at : ℕ} (o : HasMeasures image size) (
 
   pub inside : at ≤ length image
   inside =
-      let m = measured o in
+      let m = measures-known o in
       omega (arith, o .has-size, m .whole, m .first-bitmap)
 
   pub bitmap-part : midOf at (length image - at) image ≡ bitmapOf image
@@ -134,7 +134,7 @@ module _ {image : List ℕ} {size first at : ℕ} (o : HasMeasures image size) (
 
   pub bits-enough : (n : ℕ) → n ≤ capacity size → n < 8 * length (midOf at (length image - at) image)
   bits-enough n h =
-      let m = measured o in
+      let m = measures-known o in
       omega (arith, o .has-size, m .whole, m .first-bitmap, m .bits-enough, mid-len at (length image) image (omega arith))
 
   pub bits-put : {part : List ℕ} (n : ℕ) → part ≡ firstCleared (midOf at (length image - at) image) n → putMid at (length image - at) image part ≡ bitsCleared image n

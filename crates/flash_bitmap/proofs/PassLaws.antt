@@ -14,8 +14,8 @@ use Rattle.flash_model.specs.Partition.{bitmapOf, allocated, lowestFree}
 use Rattle.flash_model.proofs.BitLaws.{ones-below}
 use Rattle.flash_model.proofs.ImageLaws.{bitmap-byte}
 use Rattle.flash_measures.specs.HasMeasures.{HasMeasures}
-use Rattle.flash_bitmap.specs.Run.{Run, Passed}
-use Rattle.flash_measures.proofs.WithinLaws.{measured}
+use Rattle.flash_bitmap.specs.EqualRun.{EqualRun, BytesPassed}
+use Rattle.flash_measures.proofs.WithinLaws.{measures-known}
 
 -- ---- bytes whose bits are all alike
 
@@ -34,20 +34,20 @@ module _ (image : List ℕ) (k : ℕ) where
 
 -- ---- runs of bytes of the bitmap
 
-pub passed-none : (image : List ℕ) (byte from : ℕ) → from ≤ firstBitmap (length image) → Passed image byte from from
+pub passed-none : (image : List ℕ) (byte from : ℕ) → from ≤ firstBitmap (length image) → BytesPassed image byte from from
 passed-none image byte from h = record { low = omega arith; high = h; alike = λ k a b. absurd (omega arith) }
 
 module _ (image : List ℕ) (size : ℕ) (o : HasMeasures image size) where
   -- the bytes that have a block's bit
   pub bytes-inside : firstBitmap size * 64 + (capacity size + 7) / 8 ≤ length image
   bytes-inside =
-      let m = measured o in
+      let m = measures-known o in
       omega (arith, o .has-size, m .whole, m .first-bitmap, m .bits-enough)
 
   -- a run from the byte that the bit of `from` begins
   pub run-passed : (byte from at end to : ℕ) → at ≡ end * 64 → end ≡ firstBitmap size → 1 ≤ from → (from - 1) % 8 ≡ 0
-      → Run image byte (at + (from - 1) / 8) (at + (end + 6) / 8) to
-      → (k : ℕ) → k ≤ end → k ≤ (to - at) * 8 + 1 → from ≤ k → Passed image byte from k
+      → EqualRun image byte (at + (from - 1) / 8) (at + (end + 6) / 8) to
+      → (k : ℕ) → k ≤ end → k ≤ (to - at) * 8 + 1 → from ≤ k → BytesPassed image byte from k
   unfolding bitByte
   run-passed byte from at end to e f one begins run k most reached low =
       let long : end ≡ firstBitmap (length image) = f ∙ ap firstBitmap (sym (o .has-size)) in
@@ -81,13 +81,13 @@ module _ (image : List ℕ) (size : ℕ) (o : HasMeasures image size) (end : ℕ
   end-is = ap firstBitmap (o .has-size) ∙ sym e
 
   -- bytes of 0 have no free block
-  pub zeros-passed : {k : ℕ} → Passed image 0 1 k → lowestFree image ≡ lowest (λ j. not (allocated image j)) k (end - k)
+  pub zeros-passed : {k : ℕ} → BytesPassed image 0 1 k → lowestFree image ≡ lowest (λ j. not (allocated image j)) k (end - k)
   unfolding lowestFree lowestFreeIn allocated
   zeros-passed {k} a =
-      let n : capacity (length image) ≡ end - 1 = omega (arith, e, ap capacity (o .has-size), measured o .first-bitmap) in
+      let n : capacity (length image) ≡ end - 1 = omega (arith, e, ap capacity (o .has-size), measures-known o .first-bitmap) in
       ap (lowest (λ j. not (allocatedIn (bitmapOf image) j)) 1) n
       ∙ lowest-pass (λ j. not (allocated image j)) end 1 k (λ j l h. ap not (zero-allocated image j (a .alike j l h))) (a .low) (omega (arith, a .high, end-is))
 
   -- bytes of FF have no allocated block
-  pub ones-passed : {from k : ℕ} → Passed image 255 from k → lowest (allocated image) from (end - from) ≡ lowest (allocated image) k (end - k)
+  pub ones-passed : {from k : ℕ} → BytesPassed image 255 from k → lowest (allocated image) from (end - from) ≡ lowest (allocated image) k (end - k)
   ones-passed {from} {k} a = lowest-pass (allocated image) end from k (λ j l h. ones-free image j (a .alike j l h)) (a .low) (omega (arith, a .high, end-is))

@@ -8,11 +8,11 @@ use Rattle.words.specs.Search.{lowest}
 use Rattle.flash_model.specs.Measures.{firstBitmap}
 use Rattle.flash_model.specs.Partition.{allocated}
 use Rattle.flash_bitmap.specs.declared.Found.{Found}
-use Rattle.flash_bitmap.specs.declared.Found.the-variants.{At, Nothing}
+use Rattle.flash_bitmap.specs.declared.Found.the-variants.{Hit, Nothing}
 
 abbrev pub asFound : Option ℕ → Found
 asFound none = Nothing
-asFound (some k) = At k
+asFound (some k) = Hit k
 
 -- The lowest allocated user block from `from` on.
 unfoldable pub lowestAllocated : List ℕ → ℕ → Option ℕ

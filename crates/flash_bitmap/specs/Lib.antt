@@ -1,3 +1,3 @@
 pub mod Blank
 pub mod Found
-pub mod Run
+pub mod EqualRun

@@ -15,11 +15,11 @@ ghost use Rattle.flash_model.specs.Update.{bitCleared, bitsCleared};
 ghost use Rattle.flash_measures.specs.HasMeasures.{HasMeasures};
 ghost use Rattle.flash_bitmap.specs.Blank.{IsBlank};
 ghost use Rattle.flash_bitmap.specs.Found.{asFound, lowestAllocated};
-ghost use Rattle.flash_bitmap.specs.Run.{Passed};
+ghost use Rattle.flash_bitmap.specs.EqualRun.{BytesPassed};
 
 // A physical block, or none.
 pub enum Found {
-    At(usize),
+    Hit(usize),
     Nothing,
 }
 
@@ -66,7 +66,7 @@ pub fn clear_bit(image: &mut [u8], m: Measures, k: usize)
 fn pass_bytes(image: &[u8], m: Measures, from: usize, byte: u8) -> usize
     requires { ⌜ HasMeasures (now image) (m .size) ⌝ }
     requires { ⌜ (1 ≤ from) × (from ≤ firstBitmap (m .size)) ⌝ }
-    ensures { λ r. ⌜ Passed (now (image .entry)) byte from r ⌝ }
+    ensures { λ r. ⌜ BytesPassed (now (image .entry)) byte from r ⌝ }
 {
     if (from - 1) % 8 != 0 {
         return from;
@@ -90,7 +90,7 @@ pub fn lowest_free(image: &[u8], m: Measures) -> Found
     let mut k = pass_bytes(image, m, 1, 0);
     while k < end {
         if !is_allocated(image, m, k) {
-            return Found::At(k);
+            return Found::Hit(k);
         }
         k += 1;
     }
@@ -107,21 +107,21 @@ pub fn lowest_allocated(image: &[u8], m: Measures, from: usize) -> Found
     let mut k = from;
     while k < end {
         if is_allocated(image, m, k) {
-            return Found::At(k);
+            return Found::Hit(k);
         }
         k = pass_bytes(image, m, k + 1, 255);
     }
     Found::Nothing
 }
 
-// Clears the first n bits of a bitmap whose bytes are all FF: whole bytes, then the high bits of one more.
+// Clears the first n bits of a bitmap whose bytes are all FF: full bytes, then the high bits of one more.
 fn clear_first(bits: &mut [u8], n: usize)
     requires { ⌜ (n < 8 * length (now bits)) × IsBlank (now bits) ⌝ }
     ensures { λ _. ⌜ now (bits .exit) ≡ firstCleared (now (bits .entry)) n ⌝ }
 {
-    let whole = n / 8;
-    fill(&mut bits[0..whole], 0);
-    bits[whole] = 255u8 >> (n % 8);
+    let full_bytes = n / 8;
+    fill(&mut bits[0..full_bytes], 0);
+    bits[full_bytes] = 255u8 >> (n % 8);
 }
 
 // The bits of the blocks 1 to n are cleared, where the bitmap is FF.

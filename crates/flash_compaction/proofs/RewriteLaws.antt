@@ -1,4 +1,4 @@
--- What moving, writing and finishing come to: the compacted image. Assumes nothing.
+-- What moving, writing and blanking come to: the compacted image. Assumes nothing.
 use Prim.Native.Nat.{ℕ, suc, _+_, _*_, _-_, _≤_}
 use mathlib.Core.Path.{_≡_, _∙_}
 use mathlib.Core.List.{List, [], _∷_, _++_, append-assoc}
@@ -10,10 +10,10 @@ use Rattle.words.proofs.JoinLaws.{concat-snoc}
 use Rattle.flash_model.specs.Update.{bitsCleared, withBlock, rewritten, compacted}
 
 -- the front is the header block and the kept blocks, all else FF, and the bits of the kept blocks are cleared
-pub finished : (image front : List ℕ) (kept : List (List ℕ)) (size next : ℕ) → length image ≡ size → front ≡ take 64 image ++ concat kept → next ≡ suc (length kept)
+pub rest-blanked : (image front : List ℕ) (kept : List (List ℕ)) (size next : ℕ) → length image ≡ size → front ≡ take 64 image ++ concat kept → next ≡ suc (length kept)
     → bitsCleared (front ++ replicate (size - next * 64) 255) (next - 1) ≡ compacted image kept
 unfolding compacted rewritten
-finished image front kept size next l f n =
+rest-blanked image front kept size next l f n =
     let c : next - 1 ≡ length kept = omega arith in
     let s : size - next * 64 ≡ length image - 64 * suc (length kept) = omega (arith, l, n) in
     rw (f, s, c)

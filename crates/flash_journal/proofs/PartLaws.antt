@@ -16,9 +16,9 @@ laid : (done part rest : List ℕ) (a k : ℕ) → length done ≡ a → putMid 
 laid done part rest a k e =
     rw (take-at done rest a e, drop-at done rest a e) (sym (append-assoc done part (drop k rest)))
 
-pub put-block : (image part : List ℕ) (k : ℕ) → putMid (k * 64) (k * 64 + 64 - k * 64) image part ≡ withBlock image k part
+pub part-put : (image part : List ℕ) (k : ℕ) → putMid (k * 64) (k * 64 + 64 - k * 64) image part ≡ withBlock image k part
 unfolding withBlock
-put-block image part k =
+part-put image part k =
     rw (post-is (k * 64) (k * 64 + 64) image (omega arith)) (sym (append-assoc (take (k * 64) image) part (drop (k * 64 + 64) image)))
 
 -- number, page and checksum over the three parts of a block

@@ -1,7 +1,7 @@
 // The journal that a partition is: one block written behind the used ones, and its bitmap bit cleared.
 use checksum::checksum;
 use flash_bitmap::clear_bit;
-use flash_measures::BLOCK;
+use flash_measures::BLOCK_BYTES;
 use flash_measures::Measures;
 use words::copy_page;
 use words::put_word;
@@ -27,13 +27,13 @@ fn write_block(part: &mut [u8], number: usize, page: &[u8])
 }
 
 // Block k of the image gets number, payload and checksum.
-pub fn put_block(image: &mut [u8], m: Measures, k: usize, number: usize, page: &[u8])
+pub fn write_block_at(image: &mut [u8], m: Measures, k: usize, number: usize, page: &[u8])
     requires { ⌜ HasMeasures (now image) (m .size) ⌝ }
     requires { ⌜ (k ≤ capacity (m .size)) × (length (now page) ≡ 60) × (number < 65536) ⌝ }
     ensures { λ _. ⌜ now (image .exit) ≡ model.withBlock (now (image .entry)) k (newBlock number (now (page .entry))) ⌝ }
 {
     let at = m.start(k);
-    let end = at + BLOCK;
+    let end = at + BLOCK_BYTES;
     write_block(&mut image[at..end], number, page);
 }
 
@@ -44,6 +44,6 @@ pub fn append(image: &mut [u8], m: Measures, k: usize, number: usize, page: &[u8
     requires { ⌜ (length (now page) ≡ 60) × (number < 65536) ⌝ }
     ensures { λ _. ⌜ now (image .exit) ≡ model.appended (now (image .entry)) k (newBlock number (now (page .entry))) ⌝ }
 {
-    put_block(image, m, k, number, page);
+    write_block_at(image, m, k, number, page);
     clear_bit(image, m, k);
 }

@@ -16,9 +16,9 @@ use Rattle.flash_model.proofs.SoundLaws.{allocated-used, sound-measured}
 use Rattle.flash_model.proofs.HolderLaws.{is-holder-at}
 use Rattle.flash_model.proofs.RoomLaws.{live-holders}
 use Rattle.flash_partition.specs.Usable.{Usable}
-use Rattle.flash_partition.specs.declared.opening.Log.{Log}
+use Rattle.flash_partition.specs.declared.opening.OpenedLog.{OpenedLog}
 use Rattle.flash_partition.proofs.UsableLaws.{count-most}
-use Rattle.flash_listing.specs.Listing.{Blank, isKept, keptBlocks}
+use Rattle.flash_listing.specs.BlockTests.{NoneMarked, isKept, keptBlocks}
 
 -- ---- tests on a range
 
@@ -48,7 +48,7 @@ keep-all (x ∷ l) = rw (keep-all l)
 
 -- ---- the holders
 
-module _ {image : List ℕ} {log : Log} (u : Usable image log) where
+module _ {image : List ℕ} {log : OpenedLog} (u : Usable image log) where
   -- no block above the used ones is a holder
   unused-holder : (k : ℕ) → log .used < k → k ≤ capacity (length image) → isHolder image k ≡ false
   unused-holder k lo hi = go (isHolder image k) refl
@@ -65,20 +65,20 @@ module _ {image : List ℕ} {log : Log} (u : Usable image log) where
       keep-below (isHolder image) 1 (log .used) (capacity (length image)) (omega (arith, count-most u, ap capacity (u .has-size)))
       (λ i a b. unused-holder i (omega (arith, a)) (omega (arith, b)))
 
-  -- a test of the holders that are kept of an area
-  pub kept-by : (area : List ℕ) (q : ℕ → Bool) → ((k : ℕ) → eqb (getD area (number (blockAt image k)) 0) 0 ≡ q k)
-      → keptBlocks area image (log .used) ≡ keep q (keep (isHolder image) (userBlocks (length image)))
+  -- a test of the holders that are kept of an marks
+  pub kept-by : (marks : List ℕ) (q : ℕ → Bool) → ((k : ℕ) → eqb (getD marks (number (blockAt image k)) 0) 0 ≡ q k)
+      → keptBlocks marks image (log .used) ≡ keep q (keep (isHolder image) (userBlocks (length image)))
   unfolding keptBlocks isKept
-  kept-by area q e =
-      keep-same (isKept area image) (λ k. isHolder image k && q k) 1 (log .used) (λ k a b. rw (e k))
+  kept-by marks q e =
+      keep-same (isKept marks image) (λ k. isHolder image k && q k) 1 (log .used) (λ k a b. rw (e k))
       ∙ sym (keep-keep (isHolder image) q (numbersFrom 1 (log .used))) ∙ ap (keep q) (sym used-holders)
 
-  module _ (area : List ℕ) (blank : Blank area) where
-    pub kept-holders : map (blockAt image) (keptBlocks area image (log .used)) ≡ holders image
+  module _ (marks : List ℕ) (unmarked : NoneMarked marks) where
+    pub kept-holders : map (blockAt image) (keptBlocks marks image (log .used)) ≡ holders image
     unfolding holders
-    kept-holders = ap (map (blockAt image)) (kept-by area (λ k. true) (λ k. rw (blank (number (blockAt image k)))) ∙ keep-all (keep (isHolder image) (userBlocks (length image))))
+    kept-holders = ap (map (blockAt image)) (kept-by marks (λ k. true) (λ k. rw (unmarked (number (blockAt image k)))) ∙ keep-all (keep (isHolder image) (userBlocks (length image))))
 
-    pub kept-live : length (keptBlocks area image (log .used)) ≡ live image
+    pub kept-live : length (keptBlocks marks image (log .used)) ≡ live image
     kept-live =
-        sym (length-map (keptBlocks area image (log .used)) (blockAt image)) ∙ ap (λ (l : List (List ℕ)). length l) kept-holders
+        sym (length-map (keptBlocks marks image (log .used)) (blockAt image)) ∙ ap (λ (l : List (List ℕ)). length l) kept-holders
         ∙ sym (live-holders image (sound-measured image (u .is-sound)))

@@ -1,4 +1,4 @@
-pub mod AreaLaws
+pub mod NoMarksLaws
 pub mod MarkLaws
 pub mod NextLaws
 pub mod ListedLaws

@@ -18,8 +18,8 @@ use Rattle.flash_model.specs.Partition.{blockAt, copyAt, contents, lowestLive}
 use Rattle.flash_model.proofs.MeasureLaws.{legal-below}
 use Rattle.flash_model.proofs.MeaningLaws.{next-live, live-none}
 use Rattle.flash_partition.specs.Usable.{Usable}
-use Rattle.flash_partition.specs.declared.opening.Log.{Log}
-use Rattle.flash_listing.specs.Listing.{lowered, asNext}
+use Rattle.flash_partition.specs.declared.opening.OpenedLog.{OpenedLog}
+use Rattle.flash_listing.specs.BlockTests.{lowered, asLowest}
 use Rattle.flash_partition.proofs.UsableLaws.{usable-measured, holder-some}
 
 -- ---- one block
@@ -53,13 +53,13 @@ pub record Seen (image : List ℕ) (k n : ℕ) : Type 0 where
   pub here : copyAt image n at ≡ true
 
 -- the best so far, where the blocks below k are passed: the lowest of their numbers from the start on, or the end
-pub record Best (image : List ℕ) (start end k best : ℕ) : Type 0 where
+pub record BestSoFar (image : List ℕ) (start end k best : ℕ) : Type 0 where
   pub bound : best ≤ end
   pub not-below : best < end → start ≤ best
   pub is-seen : best < end → Seen image k best
   pub none-lower : (n j : ℕ) → start ≤ n → n < best → 1 ≤ j → j < k → copyAt image n j ≡ false
 
-pub best-first : (image : List ℕ) (start end : ℕ) → Best image start end 1 end
+pub best-first : (image : List ℕ) (start end : ℕ) → BestSoFar image start end 1 end
 best-first image start end = record {
   bound = omega arith;
   not-below = λ h. absurd (omega arith);
@@ -67,7 +67,7 @@ best-first image start end = record {
   none-lower = λ n j a b c d. absurd (omega arith);
 }
 
-module _ (image : List ℕ) (start end k best : ℕ) (b : Best image start end k best) where
+module _ (image : List ℕ) (start end k best : ℕ) (b : BestSoFar image start end k best) where
   abbrev block : List ℕ
   block = blockAt image k
 
@@ -75,7 +75,7 @@ module _ (image : List ℕ) (start end k best : ℕ) (b : Best image start end k
   seen-more n s = record { at = s .at; low = s .low; below = omega (arith, s .below); here = s .here }
 
   -- the block doesn't lower it
-  kept : ((n : ℕ) → start ≤ n → n < best → copyAt image n k ≡ false) → Best image start end (k + 1) best
+  kept : ((n : ℕ) → start ≤ n → n < best → copyAt image n k ≡ false) → BestSoFar image start end (k + 1) best
   kept h = record {
     bound = b .bound;
     not-below = b .not-below;
@@ -88,7 +88,7 @@ module _ (image : List ℕ) (start end k best : ℕ) (b : Best image start end k
       go n j a c d e (no q) = b .none-lower n j a c d (omega (arith, e, q))
 
   -- the block's number is the new best
-  taken : 1 ≤ k → start ≤ number (blockAt image k) → number (blockAt image k) < best → rightChecksum (blockAt image k) ≡ true → Best image start end (k + 1) (number (blockAt image k))
+  taken : 1 ≤ k → start ≤ number (blockAt image k) → number (blockAt image k) < best → rightChecksum (blockAt image k) ≡ true → BestSoFar image start end (k + 1) (number (blockAt image k))
   taken lo s l r = record {
     bound = omega (arith, l, b .bound);
     not-below = λ h. s;
@@ -101,14 +101,14 @@ module _ (image : List ℕ) (start end k best : ℕ) (b : Best image start end k
           ap (copyAt image n) q ∙ rw (ne-eqb (number (blockAt image k)) n (λ z. omega (arith, z, c)))
       go n j a c d e (no q) = b .none-lower n j a (omega (arith, c, l)) d (omega (arith, e, q))
 
-  pub best-next : 1 ≤ k → (part : List ℕ) → part ≡ blockAt image k → (best′ : ℕ) → best′ ≡ lowered start part best → Best image start end (k + 1) best′
+  pub best-next : 1 ≤ k → (part : List ℕ) → part ≡ blockAt image k → (best′ : ℕ) → best′ ≡ lowered start part best → BestSoFar image start end (k + 1) best′
   unfolding lowered
   best-next lo part p best′ e =
-      subst (Best image start end (k + 1)) (sym (e ∙ rw p))
+      subst (BestSoFar image start end (k + 1)) (sym (e ∙ rw p))
       (go (leb start (number (blockAt image k))) refl (ltb (number (blockAt image k)) best) refl (rightChecksum (blockAt image k)) refl)
     where
       go : (t : Bool) → leb start (number (blockAt image k)) ≡ t → (u : Bool) → ltb (number (blockAt image k)) best ≡ u → (v : Bool) → rightChecksum (blockAt image k) ≡ v
-          → Best image start end (k + 1) (cond (t && (u && v)) (number (blockAt image k)) best)
+          → BestSoFar image start end (k + 1) (cond (t && (u && v)) (number (blockAt image k)) best)
       go true a true c true d = taken lo (leb-true start (number (blockAt image k)) a) (ltb-true (number (blockAt image k)) best c) d
       go true a true c false d = kept (λ n h l. rw d (and-false (eqb (number (blockAt image k)) n)))
       go true a false c v d = kept (λ n h l. rw (ne-eqb (number (blockAt image k)) n (λ z. omega (arith, z, l, ltb-false (number (blockAt image k)) best c))))
@@ -116,7 +116,7 @@ module _ (image : List ℕ) (start end k best : ℕ) (b : Best image start end k
 
 -- ---- what the blocks passed say of contents
 
-module _ {image : List ℕ} {log : Log} (u : Usable image log) (end : ℕ) (e : end ≡ capacity (log .m .size)) where
+module _ {image : List ℕ} {log : OpenedLog} (u : Usable image log) (end : ℕ) (e : end ≡ capacity (log .m .size)) where
   legal : (n : ℕ) → n < end → legalNumber (log .m .size) n ≡ true
   legal n h = legal-below (log .m .size) n (usable-measured u) ∙ lt-ltb n (capacity (log .m .size)) (omega (arith, h, e))
 
@@ -138,32 +138,32 @@ module _ {image : List ℕ} {log : Log} (u : Usable image log) (end : ℕ) (e : 
           omega arith
 
   -- the start is past the top
-  pub next-past : (start : ℕ) → end ≤ start → asNext none ≡ asNext (lowestLive image start)
-  next-past start h = ap asNext (sym (live-none image start (λ n a c. absurd (omega (arith, a, c, h, e, ap capacity (u .has-size))))))
+  pub next-past : (start : ℕ) → end ≤ start → asLowest none ≡ asLowest (lowestLive image start)
+  next-past start h = ap asLowest (sym (live-none image start (λ n a c. absurd (omega (arith, a, c, h, e, ap capacity (u .has-size))))))
 
   -- the start itself is found
-  pub next-start : (start k best : ℕ) → start < end → k ≤ (log .used) + 1 → best ≡ start → Best image start end k best
-      → asNext (some start) ≡ asNext (lowestLive image start)
+  pub next-start : (start k best : ℕ) → start < end → k ≤ (log .used) + 1 → best ≡ start → BestSoFar image start end k best
+      → asLowest (some start) ≡ asLowest (lowestLive image start)
   next-start start k best h f q b =
-      ap asNext (sym (next-live image start start (u .is-sound) .1 (record {
+      ap asLowest (sym (next-live image start start (u .is-sound) .1 (record {
         not-below = omega arith;
         is-live = has-contents k start f h (rw q at (b .is-seen (omega (arith, q, h))));
         none-between = λ n a c. absurd (omega (arith, a, c));
       })))
 
   -- all used blocks are passed
-  module _ (start k best : ℕ) (f : k ≡ (log .used) + 1) (b : Best image start end k best) where
+  module _ (start k best : ℕ) (f : k ≡ (log .used) + 1) (b : BestSoFar image start end k best) where
     lower-none : (n : ℕ) → start ≤ n → n < best → contents image n ≡ none
     lower-none n a c = no-contents n (omega (arith, c, b .bound)) (λ j lo hi. b .none-lower n j a c lo (omega (arith, hi, f)))
 
-    pub next-is : best < end → asNext (some best) ≡ asNext (lowestLive image start)
+    pub next-is : best < end → asLowest (some best) ≡ asLowest (lowestLive image start)
     next-is h =
-        ap asNext (sym (next-live image start best (u .is-sound) .1 (record {
+        ap asLowest (sym (next-live image start best (u .is-sound) .1 (record {
           not-below = b .not-below h;
           is-live = has-contents k best (omega arith) h (b .is-seen h);
           none-between = λ n a c. lower-none n a c;
         })))
 
-    pub next-none : end ≤ best → asNext none ≡ asNext (lowestLive image start)
+    pub next-none : end ≤ best → asLowest none ≡ asLowest (lowestLive image start)
     next-none h =
-        ap asNext (sym (live-none image start (λ n a c. lower-none n a (omega (arith, c, h, e, ap capacity (u .has-size))))))
+        ap asLowest (sym (live-none image start (λ n a c. lower-none n a (omega (arith, c, h, e, ap capacity (u .has-size))))))

@@ -7,17 +7,17 @@ use Rattle.flash_model.specs.Measures.{firstBitmap, capacity}
 use Rattle.flash_model.proofs.MeasureLaws.{Measured, measures-of}
 use Rattle.flash_measures.specs.HasMeasures.{HasMeasures}
 
-pub measured : {image : List ℕ} {size : ℕ} → HasMeasures image size → Measured size
-measured {image} {size} h = measures-of size (h .is-legal)
+pub measures-known : {image : List ℕ} {size : ℕ} → HasMeasures image size → Measured size
+measures-known {image} {size} h = measures-of size (h .is-legal)
 
 pub record Within (image : List ℕ) (size k : ℕ) : Type 0 where
   pub before-bitmap : k < firstBitmap size
   pub inside : k * 64 + 64 ≤ length image
   pub small : k < 65536
 
-pub within : {image : List ℕ} {size : ℕ} (k : ℕ) → HasMeasures image size → k ≤ capacity size → Within image size k
-within k o h =
-    let m = measured o in
+pub is-within : {image : List ℕ} {size : ℕ} (k : ℕ) → HasMeasures image size → k ≤ capacity size → Within image size k
+is-within k o h =
+    let m = measures-known o in
     record {
       before-bitmap = omega (arith, m .first-bitmap);
       inside = omega (arith, o .has-size, m .whole);

@@ -4,12 +4,12 @@ ghost use mathlib.Core.Bool.{true};
 ghost use Prim.Native.Nat.{_*_, _≤_};
 ghost use Rattle.flash_model.specs.Measures as model;
 
-pub const BLOCK: usize = 64;
+pub const BLOCK_BYTES: usize = 64;
 
 // How many logical numbers the longest partition has.
 pub const NUMBERS: usize = 1021;
 
-// Whether a partition may be so long.
+// Whether this is one of the three lengths that a partition may have.
 pub fn legal_size(len: usize) -> bool
     ensures { λ r. ⌜ r ≡ model.legalSize len ⌝ }
 {
@@ -38,7 +38,7 @@ impl Measures {
         requires { ⌜ model.legalSize (self .size) ≡ true ⌝ }
         ensures { λ r. ⌜ r ≡ model.firstBitmap (self .size) ⌝ }
     {
-        self.size / BLOCK - (self.size + 32767) / 32768
+        self.size / BLOCK_BYTES - (self.size + 32767) / 32768
     }
 
     // How many user blocks there are.
@@ -55,7 +55,7 @@ impl Measures {
         requires { ⌜ k ≤ model.firstBitmap (self .size) ⌝ }
         ensures { λ r. ⌜ r ≡ k * 64 ⌝ }
     {
-        k * BLOCK
+        k * BLOCK_BYTES
     }
 
     // Whether a logical number is one of this partition's.

@@ -6,7 +6,7 @@ use lib.ListN.{length, take}
 use Rattle.words.specs.Lists.{concat}
 use Rattle.flash_model.specs.Partition.{blockAt}
 
--- The blocks rise, none is below `low`, and each lies within so many bytes.
+-- The blocks rise, none is below `low`, and each lies within the first `bytes` bytes.
 abbrev pub RisingBlocks : ℕ → ℕ → List ℕ → Type 0
 RisingBlocks low bytes [] = Unit {0}
 RisingBlocks low bytes (k ∷ l) = (low ≤ k) × ((k * 64 + 64 ≤ bytes) × RisingBlocks (suc k) bytes l)

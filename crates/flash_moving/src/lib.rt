@@ -1,6 +1,6 @@
 // Blocks of a rising list, moved down to 1, 2, 3 and on; then FF, and the bits of what stands there.
 use flash_bitmap::clear_bits;
-use flash_measures::BLOCK;
+use flash_measures::BLOCK_BYTES;
 use flash_measures::Measures;
 use words::fill;
 ghost use mathlib.Core.Path.{_≡_};
@@ -21,8 +21,8 @@ fn move_block(image: &mut [u8], from: usize, to: usize)
     if from == to {
         return;
     }
-    let a = from * BLOCK;
-    let b = to * BLOCK;
+    let a = from * BLOCK_BYTES;
+    let b = to * BLOCK_BYTES;
     let mut i = 0;
     while i < 64 {
         image[b + i] = image[a + i];
@@ -44,7 +44,7 @@ pub fn keep_blocks(image: &mut [u8], kept: &[u16]) -> usize
 }
 
 // FF from block `next` to the end, but for the bits of the blocks below it.
-pub fn finish(image: &mut [u8], m: Measures, next: usize)
+pub fn blank_rest(image: &mut [u8], m: Measures, next: usize)
     requires { ⌜ HasMeasures (now image) (m .size) ⌝ }
     requires { ⌜ (1 ≤ next) × (next ≤ capacity (m .size) + 1) ⌝ }
     ensures { λ _. ⌜ now (image .exit) ≡ model.bitsCleared (take (next * 64) (now (image .entry)) ++ replicate (m .size - next * 64) 255) (next - 1) ⌝ }

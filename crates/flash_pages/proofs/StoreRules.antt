@@ -23,9 +23,9 @@ use Rattle.flash_model.proofs.SoundLaws.{allocated-used}
 use Rattle.flash_model.proofs.SaveLaws.{append-blank, blank-used}
 use Rattle.flash_model.proofs.MeaningLaws.{contents-length}
 use Rattle.flash_bitmap.specs.Found.{asFound}
-use Rattle.flash_bitmap.specs.declared.Found.the-variants.{At, Nothing}
+use Rattle.flash_bitmap.specs.declared.Found.the-variants.{Hit, Nothing}
 use Rattle.flash_partition.specs.Usable.{Usable}
-use Rattle.flash_partition.specs.declared.opening.Log.{Log}
+use Rattle.flash_partition.specs.declared.opening.OpenedLog.{OpenedLog}
 use Rattle.flash_pages.specs.Rows.{canAppend}
 use Rattle.flash_pages.proofs.ReadLaws.{contents-at, contents-none}
 
@@ -46,7 +46,7 @@ module _ (expected page : List ℕ) where
 
 -- ---- row 9
 
-module _ {image : List ℕ} {log : Log} (u : Usable image log) (n : ℕ) (expected : List ℕ) where
+module _ {image : List ℕ} {log : OpenedLog} (u : Usable image log) (n : ℕ) (expected : List ℕ) where
   none-expected : length expected ≡ 0 → contents image n ≡ none → 0 ≡ row 9 (changedSince image n expected) 0
   unfolding changedSince
   none-expected e c = rw (c, e)
@@ -54,7 +54,7 @@ module _ {image : List ℕ} {log : Log} (u : Usable image log) (n : ℕ) (expect
   pub nothing-there : length expected ≡ 0 → asFound (holder image n) ≡ Nothing → 0 ≡ row 9 (changedSince image n expected) 0
   nothing-there e f = none-expected e (contents-none image n f)
 
-  pub page-there : length expected ≡ 0 → (k : ℕ) → asFound (holder image n) ≡ At k → 9 ≡ row 9 (changedSince image n expected) 0
+  pub page-there : length expected ≡ 0 → (k : ℕ) → asFound (holder image n) ≡ Hit k → 9 ≡ row 9 (changedSince image n expected) 0
   unfolding changedSince
   page-there e k f =
       let c = contents-at image n k f in
@@ -66,7 +66,7 @@ module _ {image : List ℕ} {log : Log} (u : Usable image log) (n : ℕ) (expect
   nothing-left h f = rw (contents-none image n f, ne-eqb (length expected) 0 h)
 
   -- the bytes are compared
-  pub compared : (k : ℕ) → asFound (holder image n) ≡ At k → (same : Bool) → same ≡ sameBytes (payload (blockAt image k)) expected
+  pub compared : (k : ℕ) → asFound (holder image n) ≡ Hit k → (same : Bool) → same ≡ sameBytes (payload (blockAt image k)) expected
       → cond same 0 9 ≡ row 9 (changedSince image n expected) 0
   unfolding changedSince
   compared k f same e = rw (contents-at image n k f, sym e) (go same)
@@ -77,7 +77,7 @@ module _ {image : List ℕ} {log : Log} (u : Usable image log) (n : ℕ) (expect
 
 -- ---- the way a save takes
 
-module _ {image : List ℕ} {log : Log} (u : Usable image log) where
+module _ {image : List ℕ} {log : OpenedLog} (u : Usable image log) where
   -- the block behind the used ones is free
   pub free-behind : (k : ℕ) → k ≡ suc (log .used) → k ≤ capacity (log .m .size) → allocated image k ≡ false
   free-behind k n h =
@@ -139,30 +139,30 @@ module _ {image : List ℕ} {log : Log} (u : Usable image log) where
 
 -- ---- the rows of a save
 
-module _ {image : List ℕ} {log : Log} (u : Usable image log) (n : ℕ) (expected page : List ℕ) where
+module _ {image : List ℕ} {log : OpenedLog} (u : Usable image log) (n : ℕ) (expected page : List ℕ) where
   pub record SaveAs (code : ℕ) (image′ : List ℕ) : Type 0 where
     pub code-is : code ≡ saveRows image n expected page
     pub image-is : image′ ≡ cond (eqb (saveRows image n expected page) 0) (saved image n page) image
 
-  refused : (c : ℕ) → (c ≡ 0 → ⊥) → c ≡ saveRows image n expected page → SaveAs c image
-  refused c h e = record { code-is = e; image-is = rw (sym e, ne-eqb c 0 h) }
+  refused-as : (c : ℕ) → (c ≡ 0 → ⊥) → c ≡ saveRows image n expected page → SaveAs c image
+  refused-as c h e = record { code-is = e; image-is = rw (sym e, ne-eqb c 0 h) }
 
   here : (b : Bool) → legalNumber (log .m .size) n ≡ b → legalNumber (length image) n ≡ b
   here b e = ap (λ (s : ℕ). legalNumber s n) (u .has-size) ∙ e
 
   pub save-6 : legalNumber (log .m .size) n ≡ false → SaveAs 6 image
   unfolding saveRows
-  save-6 e = refused 6 (λ z. omega (arith, z)) (rw (here false e))
+  save-6 e = refused-as 6 (λ z. omega (arith, z)) (rw (here false e))
 
   module _ (legal : legalNumber (log .m .size) n ≡ true) where
     pub save-8 : wrongLengths expected page ≡ true → SaveAs 8 image
     unfolding saveRows
-    save-8 e = refused 8 (λ z. omega (arith, z)) (rw (here true legal, e))
+    save-8 e = refused-as 8 (λ z. omega (arith, z)) (rw (here true legal, e))
 
     module _ (right : wrongLengths expected page ≡ false) where
       pub save-9 : (c : ℕ) → c ≡ row 9 (changedSince image n expected) 0 → (c ≡ 0 → ⊥) → SaveAs c image
       unfolding saveRows
-      save-9 c e h = refused c h (rw (here true legal, right) e)
+      save-9 c e h = refused-as c h (rw (here true legal, right) e)
 
       pub save-0 : 0 ≡ row 9 (changedSince image n expected) 0 → (image′ : List ℕ) → image′ ≡ saved image n page → SaveAs 0 image′
       unfolding saveRows

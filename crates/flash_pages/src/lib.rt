@@ -1,8 +1,8 @@
 // Reads and saves of one page, on a partition that refusals 1 to 5 don't apply to.
 use flash_bitmap::Found;
+use flash_partition::blocks::block_at;
 use flash_partition::blocks::find;
-use flash_partition::blocks::part_from;
-use flash_partition::opening::Log;
+use flash_partition::opening::OpenedLog;
 use words::copy_page;
 use words::same;
 ghost use mathlib.Core.Path.{_≡_};
@@ -18,7 +18,7 @@ ghost use Rattle.flash_partition.specs.Usable.{Usable};
 ghost use Rattle.flash_pages.specs.Rows.{readBuffer, canAppend};
 
 // Reads the contents of a number into the page: refusals 6, 8 and 7, or 0.
-pub fn read_page(image: &[u8], log: Log, number: usize, page: &mut [u8]) -> u8
+pub fn read_page(image: &[u8], log: OpenedLog, number: usize, page: &mut [u8]) -> u8
     requires { ⌜ Usable (now image) log ⌝ }
     ensures { λ r. ⌜ r ≡ readRows (now (image .entry)) number (now (page .entry)) ⌝ }
     ensures { λ _. ⌜ now (page .exit) ≡ readBuffer (now (image .entry)) number (now (page .entry)) ⌝ }
@@ -29,10 +29,10 @@ pub fn read_page(image: &[u8], log: Log, number: usize, page: &mut [u8]) -> u8
     if page.len() != 60 {
         return 8;
     }
-    let Found::At(k) = find(image, log, number) else {
+    let Found::Hit(k) = find(image, log, number) else {
         return 7;
     };
-    let block = part_from(image, log.m, k);
+    let block = block_at(image, log.m, k);
     copy_page(&block[2..62], page);
     0
 }
@@ -51,22 +51,22 @@ fn wrong_lengths(expected: &[u8], page: &[u8]) -> bool
 }
 
 // 9 where the contents of the number are not what is expected, 0 bytes being nothing; else 0.
-fn changed(image: &[u8], log: Log, number: usize, expected: &[u8]) -> u8
+fn changed_row(image: &[u8], log: OpenedLog, number: usize, expected: &[u8]) -> u8
     requires { ⌜ Usable (now image) log ⌝ }
     requires { ⌜ legalNumber (log .m .size) number ≡ true ⌝ }
     ensures { λ r. ⌜ r ≡ row 9 (changedSince (now (image .entry)) number (now (expected .entry))) 0 ⌝ }
 {
-    let found = find(image, log, number);
+    let holder = find(image, log, number);
     if expected.len() == 0 {
-        let Found::Nothing = found else {
+        let Found::Nothing = holder else {
             return 9;
         };
         return 0;
     }
-    let Found::At(k) = found else {
+    let Found::Hit(k) = holder else {
         return 9;
     };
-    let block = part_from(image, log.m, k);
+    let block = block_at(image, log.m, k);
     if same(&block[2..62], expected) {
         return 0;
     }
@@ -74,19 +74,19 @@ fn changed(image: &[u8], log: Log, number: usize, expected: &[u8]) -> u8
 }
 
 // Whether a free user block exists and the lowest free one holds 64 bytes of FF.
-fn can_append(image: &[u8], log: Log) -> bool
+fn can_append(image: &[u8], log: OpenedLog) -> bool
     requires { ⌜ Usable (now image) log ⌝ }
     ensures { λ r. ⌜ r ≡ canAppend (appendBlock (now (image .entry))) ⌝ }
 {
     if log.m.capacity() <= log.used {
         return false;
     }
-    let block = part_from(image, log.m, log.used + 1);
+    let block = block_at(image, log.m, log.used + 1);
     same(block, &[255u8; 64])
 }
 
 // The accepted save: an append where it can be had, else a compaction.
-fn store(image: &mut [u8], log: Log, number: usize, page: &[u8])
+fn store(image: &mut [u8], log: OpenedLog, number: usize, page: &[u8])
     requires { ⌜ Usable (now image) log ⌝ }
     requires { ⌜ (number ≤ topNumber (log .m .size)) × (length (now page) ≡ 60) ⌝ }
     ensures { λ _. ⌜ now (image .exit) ≡ saved (now (image .entry)) number (now (page .entry)) ⌝ }
@@ -99,7 +99,13 @@ fn store(image: &mut [u8], log: Log, number: usize, page: &[u8])
 }
 
 // Saves a page as the contents of a number: refusals 6, 8 and 9, or 0.
-pub fn save_page(image: &mut [u8], log: Log, number: usize, expected: &[u8], page: &[u8]) -> u8
+pub fn save_page(
+    image: &mut [u8],
+    log: OpenedLog,
+    number: usize,
+    expected: &[u8],
+    page: &[u8],
+) -> u8
     requires { ⌜ Usable (now image) log ⌝ }
     ensures { λ r. ⌜ r ≡ saveRows (now (image .entry)) number (now (expected .entry)) (now (page .entry)) ⌝ }
     ensures { λ _. ⌜ now (image .exit) ≡ cond (eqb (saveRows (now (image .entry)) number (now (expected .entry)) (now (page .entry))) 0) (saved (now (image .entry)) number (now (page .entry))) (now (image .entry)) ⌝ }
@@ -110,9 +116,9 @@ pub fn save_page(image: &mut [u8], log: Log, number: usize, expected: &[u8], pag
     if wrong_lengths(expected, page) {
         return 8;
     }
-    let refused = changed(&image[..], log, number, expected);
-    if refused != 0 {
-        return refused;
+    let code = changed_row(&image[..], log, number, expected);
+    if code != 0 {
+        return code;
     }
     store(image, log, number, page);
     0

@@ -21,8 +21,8 @@ use Rattle.flash_model.proofs.SoundLaws.{used-most, order-used, up-to-order}
 use Rattle.flash_measures.specs.HasMeasures.{HasMeasures}
 use Rattle.flash_bitmap.specs.Found.{lowestAllocated}
 use Rattle.flash_measures.specs.declared.Measures.{Measures}
-use Rattle.flash_partition.specs.Opening.{headerRefusal, logOf, openingOf}
-use Rattle.flash_partition.specs.declared.opening.Opened.the-variants.{Refused, Open}
+use Rattle.flash_partition.specs.OpenAnswers.{headerRefusal, logOf, openingOf}
+use Rattle.flash_partition.specs.declared.opening.Opened.the-variants.{Refused, Ready}
 
 module _ (image : List ℕ) (partition : ℕ) where
   pub open-refused : (n : ℕ) → n ≡ headerRefusal image partition → (n ≡ 0 → ⊥) → Refused n ≡ openingOf image partition
@@ -52,16 +52,16 @@ module _ (image : List ℕ) (partition : ℕ) where
     cap : ℕ
     cap = capacity (length image)
 
-    whole : (m : Measures) → m .size ≡ length image → (n : ℕ) → n ≤ cap → UpTo (allocated image) cap n → Open (record { m = m; used = n }) ≡ openingOf image partition
+    whole : (m : Measures) → m .size ≡ length image → (n : ℕ) → n ≤ cap → UpTo (allocated image) cap n → Ready (record { m = m; used = n }) ≡ openingOf image partition
     unfolding openingOf logOf sequenceRow cap
     whole m s n h b =
         let order = up-to-order image n b in
         let count : used image ≡ n = up-to-one (allocated image) cap (used image) n (order-used image order) b (used-most image) h in
         let r : refusal image partition ≡ 0 = rest-is ∙ rw order in
-        rw (r, count) (ap (λ (i : ℕ). Open (record { m = record { size = i }; used = n })) s)
+        rw (r, count) (ap (λ (i : ℕ). Ready (record { m = record { size = i }; used = n })) s)
 
     -- no block is free
-    pub open-full : lowestFree image ≡ none → (m : Measures) → m .size ≡ length image → (n : ℕ) → n ≡ capacity (m .size) → Open (record { m = m; used = n }) ≡ openingOf image partition
+    pub open-full : lowestFree image ≡ none → (m : Measures) → m .size ≡ length image → (n : ℕ) → n ≡ capacity (m .size) → Ready (record { m = m; used = n }) ≡ openingOf image partition
     unfolding lowestFree lowestFreeIn allocated cap
     open-full e m s n f =
         let all : n ≡ cap = f ∙ ap capacity s in
@@ -93,7 +93,7 @@ module _ (image : List ℕ) (partition : ℕ) where
               let below = passes-below (allocated image) cap (used image) (order-used image q) k j free-low (omega (arith, behind .low, other)) (omega (arith, behind .high, free-first .high, open-measured .first-bitmap)) (behind .passes) in
               absurd (true≢false (sym below ∙ free))
 
-      pub open-free : lowestAllocated image k ≡ none → (m : Measures) → m .size ≡ length image → Open (record { m = m; used = k - 1 }) ≡ openingOf image partition
+      pub open-free : lowestAllocated image k ≡ none → (m : Measures) → m .size ≡ length image → Ready (record { m = m; used = k - 1 }) ≡ openingOf image partition
       unfolding lowestAllocated cap
       open-free f m s = whole m s (k - 1) (omega (arith, free-first .high)) (λ j lo hi. go j lo hi (decLe k j))
         where

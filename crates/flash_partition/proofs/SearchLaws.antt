@@ -10,20 +10,20 @@ use Rattle.flash_model.specs.Measures.{legalNumber}
 use Rattle.flash_model.specs.UserBlock.{number, rightChecksum}
 use Rattle.flash_model.specs.Partition.{blockAt, copyAt, holder}
 use Rattle.flash_bitmap.specs.Found.{asFound}
-use Rattle.flash_bitmap.specs.declared.Found.the-variants.{At, Nothing}
+use Rattle.flash_bitmap.specs.declared.Found.the-variants.{Hit, Nothing}
 use Rattle.flash_partition.specs.Usable.{Usable}
-use Rattle.flash_partition.specs.declared.opening.Log.{Log}
+use Rattle.flash_partition.specs.declared.opening.OpenedLog.{OpenedLog}
 use Rattle.flash_partition.specs.Search.{foundUpTo}
 use Rattle.flash_partition.proofs.PartLaws.{number-is}
 use Rattle.flash_partition.proofs.UsableLaws.{holder-some}
 
-pub from-used : {image : List ℕ} {log : Log} → Usable image log → (n : ℕ) → legalNumber (log .m .size) n ≡ true
+pub from-used : {image : List ℕ} {log : OpenedLog} → Usable image log → (n : ℕ) → legalNumber (log .m .size) n ≡ true
     → asFound (holder image n) ≡ foundUpTo image n (log .used)
 unfolding foundUpTo
 from-used u n legal = ap asFound (holder-some u n legal)
 
 module _ (image : List ℕ) (n k : ℕ) where
-  pub found-here : 0 < k → copyAt image n k ≡ true → foundUpTo image n k ≡ At k
+  pub found-here : 0 < k → copyAt image n k ≡ true → foundUpTo image n k ≡ Hit k
   unfolding foundUpTo
   found-here h e = ap asFound (highest-here (copyAt image n) k h e)
 

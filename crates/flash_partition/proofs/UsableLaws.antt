@@ -12,9 +12,9 @@ use Rattle.flash_model.proofs.SoundLaws.{tests-of, used-most, allocated-used}
 use Rattle.flash_model.proofs.HolderLaws.{holder-used}
 use Rattle.flash_measures.specs.HasMeasures.{HasMeasures}
 use Rattle.flash_partition.specs.Usable.{Usable}
-use Rattle.flash_partition.specs.declared.opening.Log.{Log}
+use Rattle.flash_partition.specs.declared.opening.OpenedLog.{OpenedLog}
 
-module _ {image : List ℕ} {log : Log} (u : Usable image log) where
+module _ {image : List ℕ} {log : OpenedLog} (u : Usable image log) where
   pub usable-legal : legalSize (log .m .size) ≡ true
   usable-legal = subst (λ (n : ℕ). legalSize n ≡ true) (u .has-size) (tests-of image (u .is-sound) .legal-size)
 

@@ -1,3 +1,3 @@
 pub mod Usable
-pub mod Opening
+pub mod OpenAnswers
 pub mod Search

@@ -1,7 +1,7 @@
 // User blocks, each read from the part of the image that it is, and the search for a number's contents.
-use crate::opening::Log;
+use crate::opening::OpenedLog;
 use flash_bitmap::Found;
-use flash_measures::BLOCK;
+use flash_measures::BLOCK_BYTES;
 use flash_measures::Measures;
 use words::word;
 ghost use mathlib.Core.Path.{_≡_};
@@ -17,13 +17,13 @@ ghost use Rattle.flash_partition.specs.Usable.{Usable};
 ghost use Rattle.flash_partition.specs.Search.{foundUpTo, NextNumbered};
 
 // The part of the image that block k is.
-pub fn part_from(image: &[u8], m: Measures, k: usize) -> &[u8]
+pub fn block_at(image: &[u8], m: Measures, k: usize) -> &[u8]
     requires { ⌜ HasMeasures (now image) (m .size) ⌝ }
     requires { ⌜ k ≤ capacity (m .size) ⌝ }
     ensures { λ r. ⌜ (now r ≡ blockAt (now (image .entry)) k) × (length (now r) ≡ 64) ⌝ }
 {
     let at = m.start(k);
-    let end = at + BLOCK;
+    let end = at + BLOCK_BYTES;
     &image[at..end]
 }
 
@@ -35,7 +35,7 @@ pub fn right_checksum(part: &[u8]) -> bool
     word(part, 62) == checksum::checksum(&part[0..62]) as usize
 }
 
-// Whether one of the eight blocks up to k has the number. The loop has no way out, so that it is compiled to eight tests in a row.
+// Whether one of the eight blocks up to k has the number. The loop has no early exit: all eight are tested.
 fn any_of_eight(image: &[u8], m: Measures, k: usize, number: usize) -> bool
     requires { ⌜ HasMeasures (now image) (m .size) ⌝ }
     requires { ⌜ (8 ≤ k) × (k ≤ capacity (m .size)) ⌝ }
@@ -44,7 +44,7 @@ fn any_of_eight(image: &[u8], m: Measures, k: usize, number: usize) -> bool
     let mut any = false;
     let mut j: usize = 0;
     while j < 8 {
-        any = any | (word(part_from(image, m, k - j), 0) == number);
+        any = any | (word(block_at(image, m, k - j), 0) == number);
         j += 1;
     }
     any
@@ -67,14 +67,14 @@ fn pass_eights(image: &[u8], m: Measures, top: usize, number: usize) -> usize
 }
 
 // The highest block up to `top` that has the number, or 0: looked for one by one only where one of eight has it.
-fn numbered(image: &[u8], m: Measures, top: usize, number: usize) -> usize
+fn highest_with_number(image: &[u8], m: Measures, top: usize, number: usize) -> usize
     requires { ⌜ HasMeasures (now image) (m .size) ⌝ }
     requires { ⌜ top ≤ capacity (m .size) ⌝ }
     ensures { λ r. ⌜ NextNumbered (now (image .entry)) number top r ⌝ }
 {
     let mut k = pass_eights(image, m, top, number);
     while 0 < k {
-        if word(part_from(image, m, k), 0) == number {
+        if word(block_at(image, m, k), 0) == number {
             return k;
         }
         k -= 1;
@@ -82,21 +82,21 @@ fn numbered(image: &[u8], m: Measures, top: usize, number: usize) -> usize
     0
 }
 
-// The block that holds the contents of a number, searched from the highest used block down. A checksum is worked only for the
-// number asked. Callers have tested the number, so that this is small enough to be compiled into them.
-pub fn find(image: &[u8], log: Log, number: usize) -> Found
+// The block that holds the contents of a number, which callers have tested, searched from the highest used block down. A checksum
+// is worked only for the number asked.
+pub fn find(image: &[u8], log: OpenedLog, number: usize) -> Found
     requires { ⌜ Usable (now image) log ⌝ }
     requires { ⌜ legalNumber (log .m .size) number ≡ true ⌝ }
     ensures { λ r. ⌜ r ≡ asFound (holder (now (image .entry)) number) ⌝ }
 {
     let mut k = log.used;
     while 0 < k {
-        let at = numbered(image, log.m, k, number);
+        let at = highest_with_number(image, log.m, k, number);
         if at == 0 {
             return Found::Nothing;
         }
-        if right_checksum(part_from(image, log.m, at)) {
-            return Found::At(at);
+        if right_checksum(block_at(image, log.m, at)) {
+            return Found::Hit(at);
         }
         k = at - 1;
     }

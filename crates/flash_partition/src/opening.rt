@@ -3,17 +3,17 @@ use flash_bitmap::Found;
 use flash_measures::Measures;
 use words::same;
 ghost use mathlib.Core.Path.{_≡_};
-ghost use Rattle.flash_partition.specs.Opening.{headerRefusal, openingOf};
+ghost use Rattle.flash_partition.specs.OpenAnswers.{headerRefusal, openingOf};
 
 // What the opening of a sound partition found: its measures, and how many user blocks are allocated.
-pub struct Log {
+pub struct OpenedLog {
     pub m: Measures,
     pub used: usize,
 }
 
 pub enum Opened {
     Refused(u8),
-    Open(Log),
+    Ready(OpenedLog),
 }
 
 // Refusals 1 to 4, or 0.
@@ -40,13 +40,13 @@ fn header_refusal(image: &[u8], partition: u8) -> u8
 pub fn open(image: &[u8], partition: u8) -> Opened
     ensures { λ r. ⌜ r ≡ openingOf (now (image .entry)) partition ⌝ }
 {
-    let refused = header_refusal(image, partition);
-    if refused != 0 {
-        return Opened::Refused(refused);
+    let code = header_refusal(image, partition);
+    if code != 0 {
+        return Opened::Refused(code);
     }
     let m = Measures::of(image.len());
-    let Found::At(free) = flash_bitmap::lowest_free(image, m) else {
-        return Opened::Open(Log {
+    let Found::Hit(free) = flash_bitmap::lowest_free(image, m) else {
+        return Opened::Ready(OpenedLog {
             m,
             used: m.capacity(),
         });
@@ -54,5 +54,5 @@ pub fn open(image: &[u8], partition: u8) -> Opened
     let Found::Nothing = flash_bitmap::lowest_allocated(image, m, free) else {
         return Opened::Refused(5);
     };
-    Opened::Open(Log { m, used: free - 1 })
+    Opened::Ready(OpenedLog { m, used: free - 1 })
 }

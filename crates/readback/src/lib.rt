@@ -9,7 +9,7 @@ use flash::save;
 ghost use mathlib.Core.List.{[], _∷_};
 ghost use mathlib.Core.Logic.{_≢_};
 ghost use Rattle.flash_model.specs.Calls.{Answered, Call.onPage, PageCall.read};
-ghost use Rattle.flash.specs.Answers.{numbered};
+ghost use Rattle.flash.specs.Answers.{codeAnswer};
 ghost use Rattle.readback.specs.OwnPage.{OwnSave, OwnPageBack, imageBefore};
 
 // Saves a page; others check, save another number, count, look for the next live number and erase; then the number is read
@@ -24,7 +24,7 @@ pub fn save_and_read_back(
     others: &[u8],
     back: &mut [u8],
 ) -> u8
-    ensures { λ r. ⌜ Answered (imageBefore (now (image .entry)) partition number (now (expected .entry)) (now (page .entry)) other (now (others .entry))) (onPage (read partition number (now (back .entry)))) (now (image .exit)) (numbered r (now (back .exit) ∷ [])) ⌝ }
+    ensures { λ r. ⌜ Answered (imageBefore (now (image .entry)) partition number (now (expected .entry)) (now (page .entry)) other (now (others .entry))) (onPage (read partition number (now (back .entry)))) (now (image .exit)) (codeAnswer r (now (back .exit) ∷ [])) ⌝ }
     ensures { λ r. ⌜ (OwnSave (now (image .entry)) partition number (now (expected .entry)) (now (page .entry)) (now (back .entry)) → other ≢ number → OwnPageBack (now (image .entry)) number (now (page .entry)) (now (image .exit)) r (now (back .exit))) ⌝ }
 {
     save(image, partition, number, expected, page);

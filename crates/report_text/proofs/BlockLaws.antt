@@ -20,7 +20,7 @@ use Rattle.flash_model.proofs.CallLaws.{answered-code, accepted-values}
 use Rattle.flash_model.proofs.MeasureLaws.{measures-of}
 use Rattle.flash.specs.Answers.{nextAnswer}
 use Rattle.flash.specs.declared.LiveNumber.{LiveNumber}
-use Rattle.flash.specs.declared.LiveNumber.the-variants.{Number, Refused}
+use Rattle.flash.specs.declared.LiveNumber.the-variants.{Hit, Refused}
 use Rattle.report_text.specs.Text.{line, blockWord, blockLines}
 use Rattle.report_text.specs.Written.{Wrote}
 use Rattle.report_text.proofs.WrittenLaws.{Left, left-nothing}
@@ -90,7 +90,7 @@ module _ (image : List ℕ) (partition from : ℕ) (r : LiveNumber) (a : Answere
   abbrev asked : Call
   asked = onWhole (nextLive partition from)
 
-  pub answer-number : {n : ℕ} → r ≡ Number n → lowestLive image from ≡ some n
+  pub answer-number : {n : ℕ} → r ≡ Hit n → lowestLive image from ≡ some n
   answer-number {n} e =
       go (lowestLive image from) (ap (λ (x : LiveNumber). nextAnswer x .values) (sym e) ∙ accepted-values image asked image (nextAnswer r) a (ap (λ (x : LiveNumber). nextAnswer x .code) e))
     where
@@ -115,14 +115,14 @@ module _ (image : List ℕ) (partition from : ℕ) (passed : refusal image parti
   sound : Sound image
   sound = unrefused-sound image partition passed
 
-  pub number-low : {n : ℕ} → r ≡ Number n → (from ≤ n) × ((n < capacity (length image)) × (n < 65535))
+  pub number-low : {n : ℕ} → r ≡ Hit n → (from ≤ n) × ((n < capacity (length image)) × (n < 65535))
   number-low e =
       let l = live-low image sound from _ (answer-number image partition from r a e) in
       let m = measures-of (length image) (meanings .sound-means image .0 sound .legal-size) in
       (l .0, (l .1, omega (arith, l .1, m .two-bytes)))
 
   module _ {first : List ℕ} {at : ℕ} {whole out : List ℕ} {end : ℕ} (l : Left first at whole out end (linesFrom image from)) where
-    pub number-left : {n : ℕ} → r ≡ Number n → Left first at whole out end (line blockWord n ++ linesFrom image (n + 1))
+    pub number-left : {n : ℕ} → r ≡ Hit n → Left first at whole out end (line blockWord n ++ linesFrom image (n + 1))
     number-left e = rw (sym (lines-next image sound from _ (answer-number image partition from r a e))) l
 
     pub none-left : {code : ℕ} → r ≡ Refused code → Wrote first at whole out end

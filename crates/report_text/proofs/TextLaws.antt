@@ -12,7 +12,7 @@ use Rattle.flash_model.specs.Measures.{sizes, legalSize, capacity}
 use Rattle.flash_model.specs.Partition.{lengthRow, refusal, version, live, used}
 use Rattle.flash_model.specs.Calls.{Call, Answered, codeOf, Call.onWhole, WholeCall.report}
 use Rattle.flash_model.proofs.CallLaws.{answered-code, accepted-values}
-use Rattle.flash.specs.Answers.{listed}
+use Rattle.flash.specs.Answers.{reportAnswer}
 use Rattle.flash.specs.declared.Counts.{Counts}
 use Rattle.flash.specs.declared.Summary.{Summary}
 use Rattle.flash.specs.declared.Summary.the-variants.{Counted, Refused}
@@ -29,7 +29,7 @@ headOf partition c = headLines partition (c .version) (c .capacity) (c .used) (c
 value : {l m : List ℕ} → l ≡ m → (i : ℕ) → getD m i 0 ≡ getD l i 0
 value e i = ap (λ (l : List ℕ). getD l i 0) (sym e)
 
-module _ (image : List ℕ) (partition : ℕ) (r : Summary) (a : Answered image (onWhole (report partition)) image (listed r)) where
+module _ (image : List ℕ) (partition : ℕ) (r : Summary) (a : Answered image (onWhole (report partition)) image (reportAnswer r)) where
   abbrev asked : Call
   asked = onWhole (report partition)
 
@@ -38,10 +38,10 @@ module _ (image : List ℕ) (partition : ℕ) (r : Summary) (a : Answered image 
   refused-text {code} is = go (ℕ-discrete code 0)
     where
       e : code ≡ refusal image partition
-      e = ap (λ (s : Summary). listed s .code) (sym is) ∙ answered-code image asked image (listed r) a
+      e = ap (λ (s : Summary). reportAnswer s .code) (sym is) ∙ answered-code image asked image (reportAnswer r) a
 
       none-given : code ≡ 0 → [] ≡ version image ∷ capacity (length image) ∷ used image ∷ live image ∷ []
-      none-given z = ap (λ (s : Summary). listed s .values) (sym is) ∙ accepted-values image asked image (listed r) a (ap (λ (s : Summary). listed s .code) is ∙ z)
+      none-given z = ap (λ (s : Summary). reportAnswer s .values) (sym is) ∙ accepted-values image asked image (reportAnswer r) a (ap (λ (s : Summary). reportAnswer s .code) is ∙ z)
 
       go : Dec (code ≡ 0) → textFor image partition ≡ line refusedWord code
       go (yes z) = absurd (omega (arith, ap length (none-given z)))
@@ -50,12 +50,12 @@ module _ (image : List ℕ) (partition : ℕ) (r : Summary) (a : Answered image 
   module _ {c : Counts} (is : r ≡ Counted c) where
     pub counted-passed : refusal image partition ≡ 0
     unfolding codeOf
-    counted-passed = sym (answered-code image asked image (listed r) a) ∙ ap (λ (s : Summary). listed s .code) is
+    counted-passed = sym (answered-code image asked image (reportAnswer r) a) ∙ ap (λ (s : Summary). reportAnswer s .code) is
 
     pub counted-text : textFor image partition ≡ headOf partition c ++ (blockLines image ++ endLine)
     unfolding textFor
     counted-text =
-        let v = ap (λ (s : Summary). listed s .values) (sym is) ∙ accepted-values image asked image (listed r) a (ap (λ (s : Summary). listed s .code) is) in
+        let v = ap (λ (s : Summary). reportAnswer s .values) (sym is) ∙ accepted-values image asked image (reportAnswer r) a (ap (λ (s : Summary). reportAnswer s .code) is) in
         rw (counted-passed, value v 0, value v 1, value v 2, value v 3) refl
 
 -- ---- the buffer
@@ -84,7 +84,7 @@ module _ (out image : List ℕ) (partition : ℕ) (l : length out ≡ 12288) (na
       let low : partition < 10000 = omega (arith, named, partition-low (length image)) in
       rw (sym (named-text image partition named)) (left-start (record { room = omega (arith, l, text-short image partition low) }))
 
-  module _ (r : Summary) (a : Answered image (onWhole (report partition)) image (listed r)) where
+  module _ (r : Summary) (a : Answered image (onWhole (report partition)) image (reportAnswer r)) where
     pub refused-left : {code : ℕ} → r ≡ Refused code → Left out 0 (reportText image) out 0 (line refusedWord code)
     refused-left is = rw (sym (refused-text image partition r a is)) report-left
 

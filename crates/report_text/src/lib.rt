@@ -47,7 +47,7 @@ fn put_blocks(out: &mut [u8], at: usize, image: &[u8], partition: u8) -> usize
     let mut end = at;
     let mut from = 0;
     loop {
-        let LiveNumber::Number(n) = flash::next_live(image, partition, from) else {
+        let LiveNumber::Hit(n) = flash::next_live(image, partition, from) else {
             return end;
         };
         end = put_line(out, end, b"block", n);

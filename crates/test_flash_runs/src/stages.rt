@@ -13,7 +13,7 @@ fn walked(image: &[u8], partition: u8, end: usize) -> usize {
     let mut live: usize = 0;
     let mut from: usize = 0;
     while live < end {
-        let LiveNumber::Number(n) = flash::next_live(image, partition, from) else {
+        let LiveNumber::Hit(n) = flash::next_live(image, partition, from) else {
             return live;
         };
         if end <= n {

@@ -65,7 +65,7 @@ pub fn next_live(image: &[u8], partition: u8, from: usize) {
             text(b": refused ");
             number(refused as usize);
         }
-        LiveNumber::Number(n) => {
+        LiveNumber::Hit(n) => {
             text(b": number ");
             number(n);
         }

@@ -1,7 +1,7 @@
 -- `erase` meets its contract. Assumes nothing.
 use mathlib.Core.Path.{sym, _∙_}
 use Rattle.flash_model.specs.Calls.{Call.onWhole, WholeCall.erase}
-use Rattle.flash.proofs.AnswerLaws.{PastOpening, opened, refused-by, erase-done}
+use Rattle.flash.proofs.AnswerLaws.{PastOpening, past-opening, refused-by, erase-done}
 use borrow.Author.Needs.{needs}
 use Rattle.flash.proofs.erase.Statement.{statement}
 use Rattle.flash.proofs.erase.Tie as tie
@@ -13,13 +13,13 @@ abbrev logged : tie.After-known-told2 → tie.After-open
 logged c = c .before .before .before
 
 past : (c : tie.After-known-told2) → PastOpening (start (logged c) .args .image .now) (start (logged c) .args .partition) (c .before .log .given .0 .0)
-past c = opened _ _ _ (sym (logged c .«open» .ensures) ∙ c .before .log .given .1)
+past c = past-opening _ _ _ (sym (logged c .«open» .ensures) ∙ c .before .log .given .1)
 
 returns : tie.Need-returns
 returns c =
     let o = c .before .before .before in
     let a = start o in
-    refused-by (a .args .image .now) (onWhole (erase (a .args .partition))) _ (sym (o .«open» .ensures) ∙ c .before .refused .given .1)
+    refused-by (a .args .image .now) (onWhole (erase (a .args .partition))) _ (sym (o .«open» .ensures) ∙ c .before .code .given .1)
 
 returns-2 : tie.Need-returns-2
 returns-2 c =
@@ -33,7 +33,7 @@ erase-spec =
     (λ c κs. search needs)
     (λ c. search needs)
     (λ c. search needs)
-    (λ c κs. past (c .before) .usable)
+    (λ c κs. past (c .before) .is-usable)
     (λ c. search needs)
     returns
     (λ c. search needs)

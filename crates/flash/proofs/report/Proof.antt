@@ -1,7 +1,7 @@
 -- `report` meets its contract. Assumes nothing.
 use mathlib.Core.Path.{sym, _∙_}
 use Rattle.flash_model.specs.Calls.{Call.onWhole, WholeCall.report}
-use Rattle.flash.proofs.AnswerLaws.{PastOpening, opened, refused-by, report-done}
+use Rattle.flash.proofs.AnswerLaws.{PastOpening, past-opening, refused-by, report-done}
 use borrow.Author.Needs.{needs}
 use Rattle.flash.proofs.report.Statement.{statement}
 use Rattle.flash.proofs.report.Tie as tie
@@ -13,16 +13,16 @@ abbrev logged : tie.After-known-told2 → tie.After-open
 logged c = c .before .before .before
 
 past : (c : tie.After-known-told2) → PastOpening (start (logged c) .args .image .now) (start (logged c) .args .partition) (c .before .log .given .0 .0)
-past c = opened _ _ _ (sym (logged c .«open» .ensures) ∙ c .before .log .given .1)
+past c = past-opening _ _ _ (sym (logged c .«open» .ensures) ∙ c .before .log .given .1)
 
 returns : tie.Need-returns
 returns c =
     let o = c .before .before .before in
     let a = start o in
-    refused-by (a .args .image .now) (onWhole (report (a .args .partition))) _ (sym (o .«open» .ensures) ∙ c .before .refused .given .1)
+    refused-by (a .args .image .now) (onWhole (report (a .args .partition))) _ (sym (o .«open» .ensures) ∙ c .before .code .given .1)
 
 returns-2 : tie.Need-returns-2
-returns-2 c = report-done _ _ (past (c .before) .unrefused) _ (c .count-blocks .ensures)
+returns-2 c = report-done _ _ (past (c .before) .unrefused) _ (c .partition-counts .ensures)
 
 pub report-spec : {M : Type 1} → statement M
 report-spec =
@@ -31,6 +31,6 @@ report-spec =
     (λ c κs. search needs)
     (λ c. search needs)
     (λ c. search needs)
-    (λ c κs. past c .usable)
+    (λ c κs. past c .is-usable)
     returns
     returns-2)

@@ -8,7 +8,7 @@ use Rattle.words.proofs.LoopLaws.{lowest-here, lowest-next, lowest-end}
 use Rattle.flash_model.specs.Measures.{firstBitmap, capacity}
 use Rattle.flash_model.specs.Partition.{allocated}
 use Rattle.flash_bitmap.specs.Found.{asFound, lowestAllocated}
-use Rattle.flash_measures.proofs.WithinLaws.{measured}
+use Rattle.flash_measures.proofs.WithinLaws.{measures-known}
 use Rattle.flash_bitmap.proofs.PassLaws.{ones-passed}
 use borrow.Author.Needs.{needs}
 use Rattle.flash_bitmap.proofs.lowest_allocated.Statement.{statement}
@@ -41,7 +41,7 @@ is-user : (c : tie.In-loop Inv-loop μ-loop) → c .before .loop .k ≤ capacity
 is-user c =
     let f = begun (c .before) in
     let a = start f in
-    omega (arith, c .loop-test .taken, f .first-bitmap .ensures, measured (a .pre .0) .first-bitmap)
+    omega (arith, c .loop-test .taken, f .first-bitmap .ensures, measures-known (a .pre .0) .first-bitmap)
 
 pass-bytes-requires : tie.Need-pass-bytes-requires Inv-loop μ-loop
 pass-bytes-requires c κs =

@@ -9,7 +9,7 @@ use Rattle.words.specs.Search.{lowest}
 use Rattle.words.proofs.LoopLaws.{lowest-here, lowest-next, lowest-end}
 use Rattle.flash_model.specs.Partition.{allocated, lowestFree}
 use Rattle.flash_bitmap.specs.Found.{asFound}
-use Rattle.flash_measures.proofs.WithinLaws.{measured}
+use Rattle.flash_measures.proofs.WithinLaws.{measures-known}
 use Rattle.flash_bitmap.proofs.PassLaws.{zeros-passed}
 use borrow.Author.Needs.{needs}
 use Rattle.flash_bitmap.proofs.lowest_free.Statement.{statement}
@@ -45,7 +45,7 @@ is-allocated-requires c κs =
     let l = c .before in
     let f = begun l in
     let a = start f in
-    (a .pre, (l .loop .inv .0, omega (arith, c .loop-test .taken, f .first-bitmap .ensures, measured (a .pre) .first-bitmap)))
+    (a .pre, (l .loop .inv .0, omega (arith, c .loop-test .taken, f .first-bitmap .ensures, measures-known (a .pre) .first-bitmap)))
 
 returns : tie.Need-returns Inv-loop μ-loop
 returns c =
@@ -78,7 +78,7 @@ lowest-free-spec =
     Inv-loop
     μ-loop
     (λ c κs. search needs)
-    (λ c κs. (c .before .before .pre, (omega arith, omega (arith, measured (c .before .before .pre) .first-bitmap))))
+    (λ c κs. (c .before .before .pre, (omega arith, omega (arith, measures-known (c .before .before .pre) .first-bitmap))))
     loop-holds
     is-allocated-requires
     returns

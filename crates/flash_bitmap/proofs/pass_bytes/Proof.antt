@@ -5,8 +5,8 @@ use native.Mathlib.Omega.{arith}
 use mathlib.Core.Path.{ap}
 use lib.ListN.{length}
 use Rattle.flash_model.specs.Measures.{firstBitmap, capacity}
-use Rattle.flash_measures.proofs.WithinLaws.{measured}
-use Rattle.flash_bitmap.specs.Run.{Passed}
+use Rattle.flash_measures.proofs.WithinLaws.{measures-known}
+use Rattle.flash_bitmap.specs.EqualRun.{BytesPassed}
 use Rattle.flash_bitmap.proofs.PassLaws.{passed-none, bytes-inside, run-passed}
 use borrow.Author.Needs.{needs}
 use Rattle.flash_bitmap.proofs.pass_bytes.Statement.{statement}
@@ -24,7 +24,7 @@ inside c =
 below-end : (c : tie.After-start) → c .before .first-bitmap .result ≤ capacity (start c .args .m .size) + 1
 below-end c =
     let a = start c in
-    omega (arith, c .before .first-bitmap .ensures, measured (a .pre .0) .first-bitmap)
+    omega (arith, c .before .first-bitmap .ensures, measures-known (a .pre .0) .first-bitmap)
 
 returns : tie.Need-returns
 returns c =
@@ -33,7 +33,7 @@ returns c =
 
 -- the blocks before k, which the run reaches, are passed
 passed : (c : tie.After-run-end) → (k : ℕ) → k ≤ c .before .before .first-bitmap .result → k ≤ (c .run-end .result - c .before .start .result) * 8 + 1
-    → start (c .before) .args .from ≤ k → Passed (start (c .before) .args .image .now) (start (c .before) .args .byte) (start (c .before) .args .from) k
+    → start (c .before) .args .from ≤ k → BytesPassed (start (c .before) .args .image .now) (start (c .before) .args .byte) (start (c .before) .args .from) k
 passed c k most reached low =
     let s = c .before in
     let f = s .before in

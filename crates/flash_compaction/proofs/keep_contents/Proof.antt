@@ -5,7 +5,7 @@ use mathlib.Core.List.{List}
 use native.Mathlib.Omega.{arith}
 use lib.ListN.{length, take, drop}
 use Rattle.flash_model.proofs.MeasureLaws.{capacity-most}
-use Rattle.flash_listing.specs.Listing.{keptBlocks}
+use Rattle.flash_listing.specs.BlockTests.{keptBlocks}
 use Rattle.flash_moving.specs.Moving.{RisingBlocks, AllMoved}
 use Rattle.flash_partition.proofs.UsableLaws.{usable-legal, count-most}
 use Rattle.flash_compaction.proofs.KeptLaws.{kept-rise, part-is}
@@ -16,7 +16,7 @@ use Rattle.flash_compaction.proofs.keep_contents.Tie as tie
 -- the part that is handed on is the list
 listed : (l : tie.After-list-kept)
     → take (1021 - (1021 - l .list-kept .result)) (drop (1021 - l .list-kept .result) (l .list-kept .last .1 .1 .1 .0))
-    ≡ keptBlocks (l .before .before .before .before .before .before .args .area .now) (l .before .before .before .before .before .before .args .image .now) (l .before .before .before .before .before .before .args .log .used)
+    ≡ keptBlocks (l .before .before .before .before .before .before .args .marks .now) (l .before .before .before .before .before .before .args .image .now) (l .before .before .before .before .before .before .args .log .used)
 listed l = part-is 1021 (1021 - l .list-kept .result) (l .list-kept .last .1 .1 .1 .0) _ (l .list-kept .kept .1 .1 .1 .0) (l .list-kept .ensures .listed)
 
 list-kept-requires : tie.Need-list-kept-requires
@@ -36,7 +36,7 @@ keep-blocks-requires c κs =
     let l = c .before .before .before .before .before .before in
     let a = l .before .before .before .before .before .before in
     let i = a .args .image .now in
-    subst (λ (kept : List ℕ). RisingBlocks 1 (length i) kept) (sym (listed l)) (kept-rise (a .pre .0) (a .args .area .now))
+    subst (λ (kept : List ℕ). RisingBlocks 1 (length i) kept) (sym (listed l)) (kept-rise (a .pre .0) (a .args .marks .now))
 
 returns : tie.Need-returns
 returns c =

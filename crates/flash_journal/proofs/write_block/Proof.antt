@@ -8,8 +8,8 @@ use Rattle.flash_journal.proofs.write_block.Tie as tie
 abbrev copied : tie.After-checksum → tie.After-copy-page
 copied c = c .before .before .before .before .before
 
-abbrev numbered : tie.After-copy-page → tie.After-put-word
-numbered c = c .before .before .before .before
+abbrev number-put : tie.After-copy-page → tie.After-put-word
+number-put c = c .before .before .before .before
 
 abbrev start : tie.After-put-word → tie.Start
 start c = c .before .before .before .before
@@ -18,7 +18,7 @@ returns : tie.Need-returns
 returns c =
     let sum = c .before .before .before .before in
     let page = copied sum in
-    let number = numbered page in
+    let number = number-put page in
     let a = start number in
     written (a .args .part .now) (a .args .page .now) (a .args .number) (a .pre .0) (a .pre .1)
     (number .put-word .ensures) (page .copy-page .ensures) (sum .checksum .ensures) (c .before .before .put-word2 .ensures)

@@ -8,9 +8,9 @@ use lib.ListN.{length}
 use Rattle.flash_model.specs.Partition.{live}
 use Rattle.flash_model.proofs.MeasureLaws.{capacity-most}
 use Rattle.flash_partition.proofs.UsableLaws.{usable-legal, usable-measured, count-most}
-use Rattle.flash_listing.specs.Listing.{keptBlocks}
+use Rattle.flash_listing.specs.BlockTests.{keptBlocks}
 use Rattle.flash_listing.specs.Passing.{PassAt}
-use Rattle.flash_listing.proofs.AreaLaws.{blankArea, new-area}
+use Rattle.flash_listing.proofs.NoMarksLaws.{noMarks, none-marked}
 use Rattle.flash_listing.proofs.MarkLaws.{pass-first}
 use Rattle.flash_listing.proofs.ListedLaws.{none-left, stops-lower}
 use Rattle.flash_listing.proofs.HolderLaws.{kept-live}
@@ -18,11 +18,11 @@ use Rattle.flash_listing.proofs.count_live.Statement.{statement}
 use Rattle.flash_listing.proofs.count_live.Tie as tie
 
 abbrev Inv-loop : tie.InvT-loop
-Inv-loop image log area₀ end count₀ k₀ area count k =
-    (count + k ≤ log .used) × (length area ≡ length blankArea) × PassAt area image (log .m .size) end k × (count + length (keptBlocks area image k) ≡ live image)
+Inv-loop image log marks₀ end count₀ k₀ marks count k =
+    (count + k ≤ log .used) × (length marks ≡ length noMarks) × PassAt marks image (log .m .size) end k × (count + length (keptBlocks marks image k) ≡ live image)
 
 abbrev μ-loop : tie.MeasureT-loop
-μ-loop image log area₀ end count₀ k₀ area count k = k
+μ-loop image log marks₀ end count₀ k₀ marks count k = k
 
 capacity-requires : tie.Need-capacity-requires Inv-loop μ-loop
 capacity-requires c κs =
@@ -33,8 +33,8 @@ loop-holds : tie.Need-loop-holds Inv-loop μ-loop
 loop-holds c =
     let a = c .before .before in
     let s = a .args .log .m .size in
-    let long : c .capacity .result ≤ length blankArea = omega (arith, c .capacity .ensures, capacity-most s (usable-legal (a .pre))) in
-    (omega arith, refl, pass-first blankArea (c .capacity .result) (a .pre) (c .capacity .ensures) long, zero-add _ ∙ kept-live (a .pre) blankArea new-area)
+    let long : c .capacity .result ≤ length noMarks = omega (arith, c .capacity .ensures, capacity-most s (usable-legal (a .pre))) in
+    (omega arith, refl, pass-first noMarks (c .capacity .result) (a .pre) (c .capacity .ensures) long, zero-add _ ∙ kept-live (a .pre) noMarks none-marked)
 
 slice-aggregate-count-run : tie.Need-slice-aggregate-count-run Inv-loop μ-loop
 slice-aggregate-count-run c = sym (c .before .before .loop .inv .1)
@@ -49,12 +49,12 @@ add-count c =
     let u = l .before .before .before .pre in
     omega (arith, r .count-run .ensures .1 .0, l .loop .inv .0, count-most u, usable-measured u .two-bytes)
 
--- the area after a run is as long
-same-area : (r : tie.After-count-run Inv-loop μ-loop) → length (r .count-run .last .1 .1 .1 .0) ≡ length blankArea
-same-area r = r .count-run .kept .1 .1 .1 .0 ∙ r .before .before .before .loop .inv .1
+-- the marks after a run are as many
+same-marks : (r : tie.After-count-run Inv-loop μ-loop) → length (r .count-run .last .1 .1 .1 .0) ≡ length noMarks
+same-marks r = r .count-run .kept .1 .1 .1 .0 ∙ r .before .before .before .loop .inv .1
 
 slice-aggregate-pass-known : tie.Need-slice-aggregate-pass-known Inv-loop μ-loop
-slice-aggregate-pass-known c = sym (same-area (c .before .before .before))
+slice-aggregate-pass-known c = sym (same-marks (c .before .before .before))
 
 pass-known-requires : tie.Need-pass-known-requires Inv-loop μ-loop
 pass-known-requires c κs = c .before .before .before .count-run .ensures .0 .pass-at
@@ -71,7 +71,7 @@ loop-again c =
     let v = r .before .before .before .loop .inv in
     let s = c .pass-known .ensures in (
       omega (arith, v .0, r .count-run .ensures .1 .0, s .0 .no-higher),
-      same-area r,
+      same-marks r,
       s .0 .pass-at,
       omega (arith, v .3, r .count-run .ensures .1 .1, ap length (s .1)),
     )
@@ -80,7 +80,7 @@ returns : tie.Need-returns Inv-loop μ-loop
 returns c =
     let l = c .before in
     let a = l .before .before .before in
-    omega (arith, l .loop .inv .3, none-left (l .loop .area) (a .args .image .now) (l .loop .k) (c .loop-test .left))
+    omega (arith, l .loop .inv .3, none-left (l .loop .marks) (a .args .image .now) (l .loop .k) (c .loop-test .left))
 
 pub count-live-spec : {M : Type 1} → statement M
 count-live-spec =

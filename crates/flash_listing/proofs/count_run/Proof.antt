@@ -6,32 +6,32 @@ use mathlib.Core.Bool.{false}
 use native.Mathlib.Omega.{arith}
 use lib.ListN.{length}
 use borrow.Author.Tests.{not-true, not-false}
-use Rattle.flash_listing.specs.Listing.{keptBlocks}
+use Rattle.flash_listing.specs.BlockTests.{keptBlocks}
 use Rattle.flash_listing.specs.Passing.{PassAt, StopsAt}
 use Rattle.flash_listing.proofs.MarkLaws.{new-below}
-use Rattle.flash_listing.proofs.ListedLaws.{entered-next, entered-counted, stops-here, stops-last}
+use Rattle.flash_listing.proofs.ListedLaws.{marked-next, marked-counted, stops-here, stops-last}
 use borrow.Author.Needs.{needs}
 use Rattle.flash_listing.proofs.count_run.Statement.{statement}
 use Rattle.flash_listing.proofs.count_run.Tie as tie
 
 abbrev Inv-loop : tie.InvT-loop
-Inv-loop image m end area₀ from count₀ k₀ area count k =
-    (count + k ≤ from) × (length area ≡ length area₀) × PassAt area image (m .size) end k
-    × (count + length (keptBlocks area image k) ≡ length (keptBlocks area₀ image from))
+Inv-loop image m end marks₀ from count₀ k₀ marks count k =
+    (count + k ≤ from) × (length marks ≡ length marks₀) × PassAt marks image (m .size) end k
+    × (count + length (keptBlocks marks image k) ≡ length (keptBlocks marks₀ image from))
 
 abbrev μ-loop : tie.MeasureT-loop
-μ-loop image m end area₀ from count₀ k₀ area count k = k
+μ-loop image m end marks₀ from count₀ k₀ marks count k = k
 
 loop-holds : tie.Need-loop-holds Inv-loop μ-loop
 loop-holds c = (omega arith, refl, c .before .before .pre, omega arith)
 
-part-from-requires : tie.Need-part-from-requires Inv-loop μ-loop
-part-from-requires c κs =
+block-at-requires : tie.Need-block-at-requires Inv-loop μ-loop
+block-at-requires c κs =
     let p = c .before .loop .inv .2 in
-    (p .has-measures, omega (arith, p .within, p .end-is))
+    (p .has-measures, omega (arith, p .not-past-end, p .end-is))
 
 is-new-requires : tie.Need-is-new-requires Inv-loop μ-loop
-is-new-requires c κs = (c .before .part-from .ensures .1, c .before .before .before .loop .inv .2 .long)
+is-new-requires c κs = (c .before .block-at .ensures .1, c .before .before .before .loop .inv .2 .long)
 
 same-length : tie.Need-same-length Inv-loop μ-loop
 same-length c = c .before .before .before .before .before .loop .inv .1
@@ -44,20 +44,20 @@ returns c =
     let a = l .before .before .before .args in
     let v = l .loop .inv in
     let e = sym (n .is-new .ensures) ∙ not-true _ (c .if1 .taken) in
-    (stops-here (v .2) (omega (arith, v .0)) (p .part-from .ensures .0) e, (v .0, v .3))
+    (stops-here (v .2) (omega (arith, v .0)) (p .block-at .ensures .0) e, (v .0, v .3))
 
-enter-requires : tie.Need-enter-requires Inv-loop μ-loop
-enter-requires c κs =
+mark-number-requires : tie.Need-mark-number-requires Inv-loop μ-loop
+mark-number-requires c κs =
     let n = c .before .before in
     let p = n .before .before in
     let below = new-below _ _ _ (sym (n .is-new .ensures) ∙ not-false _ (c .before .if1 .left)) in
-    (p .part-from .ensures .1, omega (arith, below, p .before .before .loop .inv .2 .long))
+    (p .block-at .ensures .1, omega (arith, below, p .before .before .loop .inv .2 .long))
 
 add-count : tie.Need-add-count Inv-loop μ-loop
 add-count c =
     let e = c .before .before in
     let t = e .before .before .before .before .before .before in
-    omega (arith, e .enter .ensures .0 .1, t .loop-test .taken, t .before .loop .inv .0, t .before .before .before .before .fits)
+    omega (arith, e .mark-number .ensures .0 .1, t .loop-test .taken, t .before .loop .inv .0, t .before .before .before .before .fits)
 
 loop-again : tie.Need-loop-again Inv-loop μ-loop
 loop-again c =
@@ -68,11 +68,11 @@ loop-again c =
     let l = t .before in
     let a = l .before .before .before .args in
     let v = l .loop .inv in
-    let s = entered-next (t .loop-test .taken) (v .2) (p .part-from .ensures .0) (sym (n .is-new .ensures) ∙ not-false _ (e .before .before .if1 .left)) (e .enter .ensures .0 .0) (e .enter .ensures .1) in (
-      omega (arith, e .enter .ensures .0 .1, v .0, t .loop-test .taken),
-      e .enter .kept .1 .0 ∙ v .1,
+    let s = marked-next (t .loop-test .taken) (v .2) (p .block-at .ensures .0) (sym (n .is-new .ensures) ∙ not-false _ (e .before .before .if1 .left)) (e .mark-number .ensures .0 .0) (e .mark-number .ensures .1) in (
+      omega (arith, e .mark-number .ensures .0 .1, v .0, t .loop-test .taken),
+      e .mark-number .kept .1 .0 ∙ v .1,
       s .0,
-      entered-counted (l .loop .area) (e .enter .last .1 .0) (a .image .now) (l .loop .k) (l .loop .count) (e .enter .result) (s .1) ∙ v .3,
+      marked-counted (l .loop .marks) (e .mark-number .last .1 .0) (a .image .now) (l .loop .k) (l .loop .count) (e .mark-number .result) (s .1) ∙ v .3,
     )
 
 same-length-2 : tie.Need-same-length-2 Inv-loop μ-loop
@@ -83,8 +83,8 @@ returns-2 c =
     let l = c .before in
     let a = l .before .before .before .args in
     let v = l .loop .inv in
-    subst (λ (k : ℕ). StopsAt false (l .loop .area) (a .image .now) (a .m .size) (a .end) (a .from) k
-    × ((l .loop .count + k ≤ a .from) × (l .loop .count + length (keptBlocks (l .loop .area) (a .image .now) k) ≡ length (keptBlocks (a .area .now) (a .image .now) (a .from)))))
+    subst (λ (k : ℕ). StopsAt false (l .loop .marks) (a .image .now) (a .m .size) (a .end) (a .from) k
+    × ((l .loop .count + k ≤ a .from) × (l .loop .count + length (keptBlocks (l .loop .marks) (a .image .now) k) ≡ length (keptBlocks (a .marks .now) (a .image .now) (a .from)))))
     (omega arith)
     (stops-last (v .2) (omega (arith, v .0)) (c .loop-test .left), (v .0, v .3))
 
@@ -95,11 +95,11 @@ count-run-spec =
     Inv-loop
     μ-loop
     loop-holds
-    part-from-requires
+    block-at-requires
     is-new-requires
     same-length
     returns
-    enter-requires
+    mark-number-requires
     add-count
     (λ c. search needs)
     (λ c. search needs)

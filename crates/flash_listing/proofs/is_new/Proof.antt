@@ -1,7 +1,7 @@
 -- `flash_listing::is_new` meets its contract: each way out is a case of `isNew`. Assumes nothing.
 use mathlib.Core.Path.{sym}
 use borrow.Author.Tests.{lt-ltb, le-ltb}
-use Rattle.flash_listing.specs.Listing.{isNew}
+use Rattle.flash_listing.specs.BlockTests.{isNew}
 use Rattle.flash_partition.proofs.PartLaws.{number-is}
 use borrow.Author.Needs.{needs}
 use Rattle.flash_listing.proofs.is_new.Statement.{statement}

@@ -5,21 +5,21 @@ use mathlib.Core.Path.{_≡_, refl, sym, _∙_}
 use native.Mathlib.Omega.{arith}
 use lib.ListN.{length}
 use Rattle.flash_partition.proofs.UsableLaws.{usable-legal, count-most}
-use Rattle.flash_listing.specs.Listing.{keptBlocks}
-use Rattle.flash_listing.specs.Passing.{PassAt, leftAndListed, Entered, Grown}
+use Rattle.flash_listing.specs.BlockTests.{keptBlocks}
+use Rattle.flash_listing.specs.Passing.{PassAt, leftAndListed, MarksAdded, ListGrown}
 use Rattle.flash_listing.proofs.MarkLaws.{pass-first}
-use Rattle.flash_listing.proofs.LeftLaws.{entered-none, entered-then, marks-after, grown-none, grown-then}
+use Rattle.flash_listing.proofs.LeftLaws.{added-none, added-then, marks-after, grown-none, grown-then}
 use Rattle.flash_listing.proofs.ListedLaws.{listed-first, listed-passed, listed-all, stops-lower}
 use Rattle.flash_listing.proofs.list_kept.Statement.{statement}
 use Rattle.flash_listing.proofs.list_kept.Tie as tie
 
 abbrev Inv-loop : tie.InvT-loop
-Inv-loop image log area₀ kept₀ end count₀ k₀ area kept count k =
-    (count + k ≤ log .used) × (length area ≡ length area₀) × (length kept ≡ length kept₀) × PassAt area image (log .m .size) end k
-    × (leftAndListed area image k count kept ≡ keptBlocks area₀ image (log .used)) × Entered image area₀ area × Grown 0 count kept₀ kept
+Inv-loop image log marks₀ kept₀ end count₀ k₀ marks kept count k =
+    (count + k ≤ log .used) × (length marks ≡ length marks₀) × (length kept ≡ length kept₀) × PassAt marks image (log .m .size) end k
+    × (leftAndListed marks image k count kept ≡ keptBlocks marks₀ image (log .used)) × MarksAdded image marks₀ marks × ListGrown 0 count kept₀ kept
 
 abbrev μ-loop : tie.MeasureT-loop
-μ-loop image log area₀ kept₀ end count₀ k₀ area kept count k = k
+μ-loop image log marks₀ kept₀ end count₀ k₀ marks kept count k = k
 
 capacity-requires : tie.Need-capacity-requires Inv-loop μ-loop
 capacity-requires c κs =
@@ -33,9 +33,9 @@ loop-holds c =
       omega arith,
       refl,
       refl,
-      pass-first (a .args .area .now) (c .capacity .result) (a .pre .0) (c .capacity .ensures) (omega (arith, c .capacity .ensures, a .pre .1 .0)),
-      listed-first (a .args .area .now) i (a .args .kept .now) (a .args .log .used),
-      entered-none _ _,
+      pass-first (a .args .marks .now) (c .capacity .result) (a .pre .0) (c .capacity .ensures) (omega (arith, c .capacity .ensures, a .pre .1 .0)),
+      listed-first (a .args .marks .now) i (a .args .kept .now) (a .args .log .used),
+      added-none _ _,
       grown-none _ _,
     )
 
@@ -66,8 +66,8 @@ loop-again c =
       r .list-run .kept .1 .1 .1 .1 .0 ∙ v .2,
       s .0 .pass-at,
       listed-passed _ i _ (r .list-run .result .at) (c .pass-known .result) (r .list-run .result .count)
-          {before = leftAndListed (l .loop .area) i (l .loop .k) (l .loop .count) (l .loop .kept)} (s .1) (r .list-run .ensures .1 .1 .0) (v .4),
-      entered-then (v .5) (r .list-run .ensures .1 .1 .1 .0),
+          {before = leftAndListed (l .loop .marks) i (l .loop .k) (l .loop .count) (l .loop .kept)} (s .1) (r .list-run .ensures .1 .1 .0) (v .4),
+      added-then (v .5) (r .list-run .ensures .1 .1 .1 .0),
       grown-then (v .6) (r .list-run .ensures .1 .1 .1 .1) (v .2),
     )
 
@@ -84,9 +84,9 @@ returns c =
     let v = l .loop .inv in
     record {
       few = omega (arith, v .0);
-      listed = rw (sym (v .2)) (sym (listed-all (l .loop .area) (a .image .now) (l .loop .kept) (l .loop .k) (l .loop .count) (c .loop-test .left)) ∙ v .4);
+      listed = rw (sym (v .2)) (sym (listed-all (l .loop .marks) (a .image .now) (l .loop .kept) (l .loop .k) (l .loop .count) (c .loop-test .left)) ∙ v .4);
       grown = v .6;
-      marks = marks-after (v .5) (v .3) (omega (arith, c .loop-test .left));
+      marks-are = marks-after (v .5) (v .3) (omega (arith, c .loop-test .left));
     }
 
 pub list-kept-spec : {M : Type 1} → statement M

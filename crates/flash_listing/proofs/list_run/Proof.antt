@@ -7,36 +7,36 @@ use native.Mathlib.Omega.{arith}
 use lib.ListN.{length, length-set}
 use borrow.Author.Tests.{not-true, not-false}
 use Rattle.flash_model.proofs.MeasureLaws.{measures-of}
-use Rattle.flash_listing.specs.Passing.{PassAt, StopsAt, leftAndListed, Entered, Grown}
+use Rattle.flash_listing.specs.Passing.{PassAt, StopsAt, leftAndListed, MarksAdded, ListGrown}
 use Rattle.flash_listing.proofs.MarkLaws.{new-below}
-use Rattle.flash_listing.proofs.LeftLaws.{entered-none, entered-then, grown-none, grown-stored, grown-then}
-use Rattle.flash_listing.proofs.ListedLaws.{entered-next, entered-listed, stops-here, stops-last}
+use Rattle.flash_listing.proofs.LeftLaws.{added-none, added-then, grown-none, grown-stored, grown-then}
+use Rattle.flash_listing.proofs.ListedLaws.{marked-next, marked-listed, stops-here, stops-last}
 use borrow.Author.Needs.{needs}
 use Rattle.flash_listing.proofs.list_run.Statement.{statement}
 use Rattle.flash_listing.proofs.list_run.Tie as tie
 
 abbrev Inv-loop : tie.InvT-loop
-Inv-loop image m end area₀ kept₀ listed from count₀ k₀ area kept count k =
-    (count + k ≤ listed + from) × (k ≤ from) × (length area ≡ length area₀) × (length kept ≡ length kept₀) × PassAt area image (m .size) end k
-    × (leftAndListed area image k count kept ≡ leftAndListed area₀ image from listed kept₀) × Entered image area₀ area × Grown listed count kept₀ kept
+Inv-loop image m end marks₀ kept₀ listed from count₀ k₀ marks kept count k =
+    (count + k ≤ listed + from) × (k ≤ from) × (length marks ≡ length marks₀) × (length kept ≡ length kept₀) × PassAt marks image (m .size) end k
+    × (leftAndListed marks image k count kept ≡ leftAndListed marks₀ image from listed kept₀) × MarksAdded image marks₀ marks × ListGrown listed count kept₀ kept
 
 abbrev μ-loop : tie.MeasureT-loop
-μ-loop image m end area₀ kept₀ listed from count₀ k₀ area kept count k = k
+μ-loop image m end marks₀ kept₀ listed from count₀ k₀ marks kept count k = k
 
 -- the list has room for block k
 room : (l : tie.At-loop Inv-loop μ-loop) → l .loop .count + l .loop .k ≤ length (l .loop .kept)
 room l = omega (arith, l .loop .inv .0, l .loop .inv .3, l .before .before .before .before .pre .1)
 
 loop-holds : tie.Need-loop-holds Inv-loop μ-loop
-loop-holds c = (omega arith, omega arith, refl, refl, c .before .before .before .pre .0, refl, entered-none _ _, grown-none _ _)
+loop-holds c = (omega arith, omega arith, refl, refl, c .before .before .before .pre .0, refl, added-none _ _, grown-none _ _)
 
-part-from-requires : tie.Need-part-from-requires Inv-loop μ-loop
-part-from-requires c κs =
+block-at-requires : tie.Need-block-at-requires Inv-loop μ-loop
+block-at-requires c κs =
     let p = c .before .loop .inv .4 in
-    (p .has-measures, omega (arith, p .within, p .end-is))
+    (p .has-measures, omega (arith, p .not-past-end, p .end-is))
 
 is-new-requires : tie.Need-is-new-requires Inv-loop μ-loop
-is-new-requires c κs = (c .before .part-from .ensures .1, c .before .before .before .loop .inv .4 .long)
+is-new-requires c κs = (c .before .block-at .ensures .1, c .before .before .before .loop .inv .4 .long)
 
 same-length : tie.Need-same-length Inv-loop μ-loop
 same-length c = c .before .before .before .before .before .loop .inv .2
@@ -52,20 +52,20 @@ returns c =
     let a = l .before .before .before .before .args in
     let v = l .loop .inv in
     let e = sym (n .is-new .ensures) ∙ not-true _ (c .if1 .taken) in
-    (stops-here (v .4) (v .1) (p .part-from .ensures .0) e, (v .0, (v .5, (v .6, v .7))))
+    (stops-here (v .4) (v .1) (p .block-at .ensures .0) e, (v .0, (v .5, (v .6, v .7))))
 
-enter-requires : tie.Need-enter-requires Inv-loop μ-loop
-enter-requires c κs =
+mark-number-requires : tie.Need-mark-number-requires Inv-loop μ-loop
+mark-number-requires c κs =
     let n = c .before .before in
     let p = n .before .before in
     let below = new-below _ _ _ (sym (n .is-new .ensures) ∙ not-false _ (c .before .if1 .left)) in
-    (p .part-from .ensures .1, omega (arith, below, p .before .before .loop .inv .4 .long))
+    (p .block-at .ensures .1, omega (arith, below, p .before .before .loop .inv .4 .long))
 
 cast-kept : tie.Need-cast-kept Inv-loop μ-loop
 cast-kept c =
     let l = c .before .before .before .before .before .before .before .before .before in
     let p = l .loop .inv .4 in
-    omega (arith, p .within, p .end-is, measures-of _ (p .has-measures .is-legal) .two-bytes)
+    omega (arith, p .not-past-end, p .end-is, measures-of _ (p .has-measures .is-legal) .two-bytes)
 
 sub-kept : tie.Need-sub-kept Inv-loop μ-loop
 sub-kept c = omega (arith, room (c .before .before .before .before .before .before .before .before .before))
@@ -85,7 +85,7 @@ add-count c =
     let e = c .before .before in
     let t = e .before .before .before .before .before .before in
     let l = t .before in
-    omega (arith, e .enter .ensures .0 .1, t .loop-test .taken, room l, l .loop .inv .3, l .before .before .before .before .good .1 .1 .1 .1 .0 .0)
+    omega (arith, e .mark-number .ensures .0 .1, t .loop-test .taken, room l, l .loop .inv .3, l .before .before .before .before .good .1 .1 .1 .1 .0 .0)
 
 loop-again : tie.Need-loop-again Inv-loop μ-loop
 loop-again c =
@@ -97,15 +97,15 @@ loop-again c =
     let a = l .before .before .before .before .args in
     let v = l .loop .inv in
     let low = t .loop-test .taken in
-    let s = entered-next low (v .4) (p .part-from .ensures .0) (sym (n .is-new .ensures) ∙ not-false _ (e .before .before .if1 .left)) (e .enter .ensures .0 .0) (e .enter .ensures .1) in (
-      omega (arith, e .enter .ensures .0 .1, v .0, low),
+    let s = marked-next low (v .4) (p .block-at .ensures .0) (sym (n .is-new .ensures) ∙ not-false _ (e .before .before .if1 .left)) (e .mark-number .ensures .0 .0) (e .mark-number .ensures .1) in (
+      omega (arith, e .mark-number .ensures .0 .1, v .0, low),
       omega (arith, v .1),
-      e .enter .kept .1 .0 ∙ v .2,
+      e .mark-number .kept .1 .0 ∙ v .2,
       simp length-set (v .3),
       s .0,
-      entered-listed (l .loop .area) (e .enter .last .1 .0) (a .image .now) (l .loop .k) (l .loop .count) (e .enter .result) (s .1) (l .loop .kept) low (room l) (e .enter .ensures .0 .1) ∙ v .5,
-      entered-then (v .6) (s .2),
-      grown-then (v .7) (grown-stored (l .loop .count) (e .enter .result) (l .loop .k) (l .loop .kept)) (v .3),
+      marked-listed (l .loop .marks) (e .mark-number .last .1 .0) (a .image .now) (l .loop .k) (l .loop .count) (e .mark-number .result) (s .1) (l .loop .kept) low (room l) (e .mark-number .ensures .0 .1) ∙ v .5,
+      added-then (v .6) (s .2),
+      grown-then (v .7) (grown-stored (l .loop .count) (e .mark-number .result) (l .loop .k) (l .loop .kept)) (v .3),
     )
 
 same-length-3 : tie.Need-same-length-3 Inv-loop μ-loop
@@ -119,10 +119,10 @@ returns-2 c =
     let l = c .before in
     let a = l .before .before .before .before .args in
     let v = l .loop .inv in
-    subst (λ (k : ℕ). StopsAt false (l .loop .area) (a .image .now) (a .m .size) (a .end) (a .from) k
+    subst (λ (k : ℕ). StopsAt false (l .loop .marks) (a .image .now) (a .m .size) (a .end) (a .from) k
     × ((l .loop .count + k ≤ a .listed + a .from)
-    × ((leftAndListed (l .loop .area) (a .image .now) k (l .loop .count) (l .loop .kept) ≡ leftAndListed (a .area .now) (a .image .now) (a .from) (a .listed) (a .kept .now))
-    × (Entered (a .image .now) (a .area .now) (l .loop .area) × Grown (a .listed) (l .loop .count) (a .kept .now) (l .loop .kept)))))
+    × ((leftAndListed (l .loop .marks) (a .image .now) k (l .loop .count) (l .loop .kept) ≡ leftAndListed (a .marks .now) (a .image .now) (a .from) (a .listed) (a .kept .now))
+    × (MarksAdded (a .image .now) (a .marks .now) (l .loop .marks) × ListGrown (a .listed) (l .loop .count) (a .kept .now) (l .loop .kept)))))
     (omega arith)
     (stops-last (v .4) (v .1) (c .loop-test .left), (v .0, (v .5, (v .6, v .7))))
 
@@ -133,12 +133,12 @@ list-run-spec =
     Inv-loop
     μ-loop
     loop-holds
-    part-from-requires
+    block-at-requires
     is-new-requires
     same-length
     same-length-2
     returns
-    enter-requires
+    mark-number-requires
     cast-kept
     sub-kept
     sub-kept-2

@@ -12,11 +12,11 @@ abbrev start : tie.After-capacity → tie.Start
 start c = c .before .before
 
 -- from behind the test back to the measures
-abbrev measured : tie.Else1 → tie.After-capacity
-measured c = c .before .before
+abbrev at-capacity : tie.Else1 → tie.After-capacity
+at-capacity c = c .before .before
 
-room : (c : tie.Else1) → start (measured c) .args .log .used < capacity (start (measured c) .args .log .m .size)
-room c = omega (arith, c .if1 .left, measured c .capacity .ensures)
+room : (c : tie.Else1) → start (at-capacity c) .args .log .used < capacity (start (at-capacity c) .args .log .m .size)
+room c = omega (arith, c .if1 .left, at-capacity c .capacity .ensures)
 
 returns : tie.Need-returns
 returns c =
@@ -27,8 +27,8 @@ returns-2 : tie.Need-returns-2
 returns-2 c =
     let p = c .before .before in
     let e = p .before .before in
-    let a = start (measured e) in
-    append-blank-block (a .pre) (room e) (a .args .log .used + 1) (omega arith) (c .same .result) _ (p .part-from .ensures .0) (c .same .ensures)
+    let a = start (at-capacity e) in
+    append-blank-block (a .pre) (room e) (a .args .log .used + 1) (omega arith) (c .same .result) _ (p .block-at .ensures .0) (c .same .ensures)
 
 pub can-append-spec : {M : Type 1} → statement M
 can-append-spec =
@@ -37,7 +37,7 @@ can-append-spec =
     (λ c κs. usable-legal (c .before .pre))
     returns
     (λ c. search needs)
-    (λ c κs. (usable-has (start (measured (c .before)) .pre), omega (arith, room (c .before))))
+    (λ c κs. (usable-has (start (at-capacity (c .before)) .pre), omega (arith, room (c .before))))
     (λ c. search needs)
     (λ c κs. search needs)
     returns-2)

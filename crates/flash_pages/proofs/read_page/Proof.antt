@@ -42,8 +42,8 @@ returns-3 c =
     (contents-none i (a .args .number) (sym (c .before .before .find .ensures) ∙ c .enum-told .given .1)) in
     (r .code-is, r .buffer-is)
 
-part-from-requires : tie.Need-part-from-requires
-part-from-requires c κs =
+block-at-requires : tie.Need-block-at-requires
+block-at-requires c κs =
     let a = c .before .before .before .before .before .before .before .before .before in
     let u = a .pre in
     (usable-has u, found-high u (a .args .number) _ (sym (c .before .before .before .find .ensures) ∙ c .before .k .given .1))
@@ -54,7 +54,7 @@ returns-4 c =
     let u = a .pre in
     let f = c .before .before .before .before .before .before .before .before .before in
     let l = f .before .before in
-    let part = c .before .before .before .before .before .part-from in
+    let part = c .before .before .before .before .before .block-at in
     let r = read-0 u (a .args .number) (a .args .page .now) (sym (l .before .legal-number .ensures) ∙ not-false _ (l .if1 .left)) (f .before .if2 .left)
     _ (sym (f .find .ensures) ∙ c .before .before .before .before .before .before .before .k .given .1)
     _ (c .before .before .copy-page .ensures ∙ payload-part (part .result .now) _ (part .ensures .0)) in
@@ -71,7 +71,7 @@ read-page-spec =
     (λ c. search needs)
     (λ c. search needs)
     returns-3
-    part-from-requires
+    block-at-requires
     (λ c. search needs)
     (λ c. search needs)
     (λ c. search needs)

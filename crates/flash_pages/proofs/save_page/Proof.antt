@@ -30,8 +30,8 @@ returns-2 c =
     let r = save-8 u (a .args .number) (a .args .expected .now) (a .args .page .now) legal (sym (c .before .wrong-lengths .ensures) ∙ c .if2 .taken) in
     (r .code-is, r .image-is)
 
-changed-requires : tie.Need-changed-requires
-changed-requires c κs =
+changed-row-requires : tie.Need-changed-row-requires
+changed-row-requires c κs =
     let l = c .before .before .before in
     (l .before .before .before .before .before .pre, sym (l .before .legal-number .ensures) ∙ not-false _ (l .if1 .left))
 
@@ -43,7 +43,7 @@ returns-3 c =
     let legal = sym (l .before .legal-number .ensures) ∙ not-false _ (l .if1 .left) in
     let w = c .before .before .before in
     let right = sym (w .before .wrong-lengths .ensures) ∙ w .if2 .left in
-    let r = save-9 u (a .args .number) (a .args .expected .now) (a .args .page .now) legal right _ (c .before .changed .ensures) (c .if3 .taken) in
+    let r = save-9 u (a .args .number) (a .args .expected .now) (a .args .page .now) legal right _ (c .before .changed-row .ensures) (c .if3 .taken) in
     (r .code-is, r .image-is)
 
 store-requires : tie.Need-store-requires
@@ -65,7 +65,7 @@ returns-4 c =
     let legal = sym (l .before .legal-number .ensures) ∙ not-false _ (l .if1 .left) in
     let w = c .before .before .before .before .before .before .before in
     let right = sym (w .before .wrong-lengths .ensures) ∙ w .if2 .left in
-    let r = save-0 u (a .args .number) (a .args .expected .now) (a .args .page .now) legal right (sym (c .before .before .before .before .if3 .left) ∙ c .before .before .before .before .before .changed .ensures) _ (c .before .before .store .ensures) in
+    let r = save-0 u (a .args .number) (a .args .expected .now) (a .args .page .now) legal right (sym (c .before .before .before .before .if3 .left) ∙ c .before .before .before .before .before .changed-row .ensures) _ (c .before .before .store .ensures) in
     (r .code-is, r .image-is)
 
 pub save-page-spec : {M : Type 1} → statement M
@@ -76,7 +76,7 @@ save-page-spec =
     returns
     (λ c κs. search needs)
     returns-2
-    changed-requires
+    changed-row-requires
     (λ c. search needs)
     returns-3
     store-requires

@@ -7,7 +7,7 @@ use borrow.Author.Tests.{eq-eqb, ne-eqb}
 use Rattle.flash_model.specs.Calls.{Call, Reply}
 use Rattle.flash_model.specs.Calls.{Call.onPage, Call.onWhole, PageCall.read, PageCall.save, WholeCall.check, WholeCall.report, WholeCall.nextLive, WholeCall.erase}
 use Rattle.flash_model.specs.Runs.{Step, Chain}
-use Rattle.flash.specs.Answers.{numbered, listed, nextAnswer}
+use Rattle.flash.specs.Answers.{codeAnswer, reportAnswer, nextAnswer}
 use Rattle.readback.proofs.OwnPageLaws.{final-read, own-page-back}
 use borrow.Author.Needs.{needs}
 use Rattle.readback.proofs.save_and_read_back.Statement.{statement}
@@ -38,20 +38,20 @@ returns c =
     let counted = c .before .before .before .before .before .before .before .before .before .before .before .report in
     let looked = c .before .before .before .before .before .before .before .before .before .next-live in
     let steps : List Step =
-    step (onPage (save p n e page)) (numbered (one .result) (e ∷ page ∷ [])) i1
-    ∷ step (onWhole (check p)) (numbered (checked .result) []) i1
-    ∷ step (onPage (save p (a .args .other) page others)) (numbered (two .result) (page ∷ others ∷ [])) i2
-    ∷ step (onWhole (report p)) (listed (counted .result)) i2
+    step (onPage (save p n e page)) (codeAnswer (one .result) (e ∷ page ∷ [])) i1
+    ∷ step (onWhole (check p)) (codeAnswer (checked .result) []) i1
+    ∷ step (onPage (save p (a .args .other) page others)) (codeAnswer (two .result) (page ∷ others ∷ [])) i2
+    ∷ step (onWhole (report p)) (reportAnswer (counted .result)) i2
     ∷ step (onWhole (nextLive p n)) (nextAnswer (looked .result)) i2
-    ∷ step (onWhole (erase p)) (numbered (three .result) []) i3
-    ∷ step (onPage (read p n back)) (numbered (last .result) (left ∷ [])) i3
+    ∷ step (onWhole (erase p)) (codeAnswer (three .result) []) i3
+    ∷ step (onPage (read p n back)) (codeAnswer (last .result) (left ∷ [])) i3
     ∷ [] in
     let chain : Chain i steps = (one .ensures, (checked .ensures, (two .ensures, (counted .ensures, (looked .ensures, (three .ensures, (last .ensures, tt))))))) in
     let mine = eq-eqb n n refl in (
       final-read i p n e page (a .args .other) others back i1 i2 i3 _ _ _ _ (one .ensures) (two .ensures) (three .ensures) (last .ensures),
       λ own apart.
           let theirs = ne-eqb n (a .args .other) (λ q. apart (sym q)) in
-          own-page-back i p n e page back own steps chain (rw (mine, theirs)) (numbered (one .result) (e ∷ page ∷ [])) (numbered (last .result) (left ∷ [])) left (rw (mine, theirs)) refl,
+          own-page-back i p n e page back own steps chain (rw (mine, theirs)) (codeAnswer (one .result) (e ∷ page ∷ [])) (codeAnswer (last .result) (left ∷ [])) left (rw (mine, theirs)) refl,
     )
 
 pub save-and-read-back-spec : {M : Type 1} → statement M

@@ -5,14 +5,14 @@ use mathlib.Core.Path.{_≡_, _∙_}
 use native.Mathlib.Omega.{arith}
 use borrow.Author.Tests.{eqb-true}
 use Rattle.words.specs.LittleEndian.{repeated}
-use Rattle.flash_bitmap.specs.Run.{Run}
+use Rattle.flash_bitmap.specs.EqualRun.{EqualRun}
 use Rattle.flash_bitmap.proofs.RunLaws.{run-none, run-byte, run-word}
 use borrow.Author.Needs.{needs}
 use Rattle.flash_bitmap.proofs.runs.run_end.Statement.{statement}
 use Rattle.flash_bitmap.proofs.runs.run_end.Tie as tie
 
 abbrev Inv-loop : tie.InvT-loop
-Inv-loop s at end byte word i₀ i = Run s byte at end i
+Inv-loop s at end byte word i₀ i = EqualRun s byte at end i
 
 abbrev μ-loop : tie.MeasureT-loop
 μ-loop s at end byte word i₀ i = end - i
@@ -20,8 +20,8 @@ abbrev μ-loop : tie.MeasureT-loop
 loop-again : tie.Need-loop-again Inv-loop μ-loop Inv-loop μ-loop
 loop-again c =
     let l = c .before .before .before in
-    let whole : c .before .little8 .result ≡ repeated (l .before .before .args .byte) 8 = eqb-true _ _ (c .if1 .taken) ∙ omega arith in
-    run-word _ _ _ _ _ (c .before .little8 .result) (l .loop .inv) (omega arith) (omega arith) (c .before .little8 .ensures) whole
+    let all-alike : c .before .little8 .result ≡ repeated (l .before .before .args .byte) 8 = eqb-true _ _ (c .if1 .taken) ∙ omega arith in
+    run-word _ _ _ _ _ (c .before .little8 .result) (l .loop .inv) (omega arith) (omega arith) (c .before .little8 .ensures) all-alike
 
 loop2-again : tie.Need-loop2-again Inv-loop μ-loop Inv-loop μ-loop
 loop2-again c =

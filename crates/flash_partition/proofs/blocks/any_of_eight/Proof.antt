@@ -32,7 +32,7 @@ loop-again c =
     let i = a .image .now in
     let n = a .number in
     let at = a .k - l .j in
-    let part = c .before .part-from in
+    let part = c .before .block-at in
     let w = c .word in
     let next : at - 1 ≡ a .k - (l .j + 1) = omega arith in (
       omega arith,

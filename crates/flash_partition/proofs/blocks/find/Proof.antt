@@ -24,46 +24,46 @@ loop-holds c =
     let s = c .before in
     (omega arith, from-used (s .pre .0) (s .args .number) (s .pre .1))
 
-numbered-requires : tie.Need-numbered-requires Inv-loop μ-loop
-numbered-requires c κs =
+highest-with-number-requires : tie.Need-highest-with-number-requires Inv-loop μ-loop
+highest-with-number-requires c κs =
     let s = c .before .before .before in
     let u = s .pre .0 in
     (usable-has u, omega (arith, c .before .loop .inv .0, count-most u))
 
 returns : tie.Need-returns Inv-loop μ-loop
 returns c =
-    let f = c .before .numbered in
+    let f = c .before .highest-with-number in
     let l = c .before .before .before .loop in
     let a = c .before .before .before .before .before .args in
     sym (l .inv .1 ∙ f .ensures .same ∙ none-left (a .image .now) (a .number) (f .result) (omega arith))
 
-part-from-requires : tie.Need-part-from-requires Inv-loop μ-loop
-part-from-requires c κs =
+block-at-requires : tie.Need-block-at-requires Inv-loop μ-loop
+block-at-requires c κs =
     let s = c .before .before .before .before .before in
     let u = s .pre .0 in
-    (usable-has u, omega (arith, c .before .before .before .loop .inv .0, c .before .numbered .ensures .below, count-most u))
+    (usable-has u, omega (arith, c .before .before .before .loop .inv .0, c .before .highest-with-number .ensures .below, count-most u))
 
 returns-2 : tie.Need-returns-2 Inv-loop μ-loop
 returns-2 c =
-    let f = c .before .before .before .before .numbered in
+    let f = c .before .before .before .before .highest-with-number in
     let l = c .before .before .before .before .before .before .loop in
     let a = c .before .before .before .before .before .before .before .before .args in
     let above : 0 < f .result = omega (arith, c .before .before .before .if1 .left) in
-    let right = ap rightChecksum (sym (c .before .before .part-from .ensures .0)) ∙ sym (c .before .right-checksum .ensures) ∙ c .if2 .taken in
+    let right = ap rightChecksum (sym (c .before .before .block-at .ensures .0)) ∙ sym (c .before .right-checksum .ensures) ∙ c .if2 .taken in
     sym (l .inv .1 ∙ f .ensures .same ∙ found-here (a .image .now) (a .number) (f .result) above (ap₂ _&&_ (f .ensures .has-number above) right))
 
 loop-less : tie.Need-loop-less Inv-loop μ-loop
 loop-less c =
-    let f = c .before .before .before .before .numbered in
+    let f = c .before .before .before .before .highest-with-number in
     omega (arith, c .before .before .before .if1 .left, f .ensures .below)
 
 loop-again : tie.Need-loop-again Inv-loop μ-loop
 loop-again c =
-    let f = c .before .before .before .before .numbered in
+    let f = c .before .before .before .before .highest-with-number in
     let l = c .before .before .before .before .before .before .loop in
     let a = c .before .before .before .before .before .before .before .before .args in
     let above : 0 < f .result = omega (arith, c .before .before .before .if1 .left) in
-    let wrong = ap rightChecksum (sym (c .before .before .part-from .ensures .0)) ∙ sym (c .before .right-checksum .ensures) ∙ c .if2 .left in (
+    let wrong = ap rightChecksum (sym (c .before .before .block-at .ensures .0)) ∙ sym (c .before .right-checksum .ensures) ∙ c .if2 .left in (
       omega (arith, f .ensures .below, l .inv .0),
       l .inv .1 ∙ f .ensures .same ∙ passed (a .image .now) (a .number) (f .result) above (ap₂ _&&_ (f .ensures .has-number above) wrong),
     )
@@ -81,9 +81,9 @@ find-spec =
     Inv-loop
     μ-loop
     loop-holds
-    numbered-requires
+    highest-with-number-requires
     returns
-    part-from-requires
+    block-at-requires
     (λ c κs. search needs)
     returns-2
     (λ c. search needs)

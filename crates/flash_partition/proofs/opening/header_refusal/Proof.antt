@@ -4,7 +4,7 @@ use native.Mathlib.Omega.{arith}
 use borrow.Author.Tests.{eq-eqb, ne-eqb, lt-ltb, le-ltb, not-true, not-false}
 use Rattle.flash_model.specs.Partition.{magic, headerNumber, version, lengthRow, headerRows}
 use Rattle.flash_model.proofs.MeasureLaws.{measures-of}
-use Rattle.flash_partition.specs.Opening.{headerRefusal}
+use Rattle.flash_partition.specs.OpenAnswers.{headerRefusal}
 use borrow.Author.Needs.{needs}
 use Rattle.flash_partition.proofs.opening.header_refusal.Statement.{statement}
 use Rattle.flash_partition.proofs.opening.header_refusal.Tie as tie

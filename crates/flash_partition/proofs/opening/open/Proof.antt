@@ -4,8 +4,8 @@ use mathlib.Core.Option.{some}
 use native.Mathlib.Omega.{arith}
 use Rattle.flash_model.specs.Partition.{lowestFree}
 use Rattle.flash_measures.specs.HasMeasures.{HasMeasures}
-use Rattle.flash_bitmap.proofs.FoundLaws.{found-at, found-nothing}
-use Rattle.flash_partition.specs.Opening.{headerRefusal}
+use Rattle.flash_bitmap.proofs.FoundLaws.{found-hit, found-nothing}
+use Rattle.flash_partition.specs.OpenAnswers.{headerRefusal}
 use Rattle.flash_partition.proofs.OpenLaws.{open-refused, open-has, open-full, free-low, open-gap, open-free}
 use borrow.Author.Needs.{needs}
 use Rattle.flash_partition.proofs.opening.open.Statement.{statement}
@@ -33,7 +33,7 @@ over c =
     open-has (a .args .image .now) (a .args .partition) (passed (c .before)) (c .of .result .size) (c .of .ensures)
 
 is-free : (c : tie.After-known-told) → lowestFree (start (tested (searched c)) .args .image .now) ≡ some (c .before .free .given .0 .0)
-is-free c = found-at _ _ (sym (searched c .lowest-free .ensures) ∙ c .before .free .given .1)
+is-free c = found-hit _ _ (sym (searched c .lowest-free .ensures) ∙ c .before .free .given .1)
 
 returns : tie.Need-returns
 returns c =
@@ -59,7 +59,7 @@ returns-3 c =
     let l = c .before .before in
     let e = tested (searched (again l)) in
     let a = start e in
-    open-gap (a .args .image .now) (a .args .partition) (passed e) _ (is-free (again l)) _ (found-at _ _ (sym (l .lowest-allocated .ensures) ∙ c .enum-told3 .given .1))
+    open-gap (a .args .image .now) (a .args .partition) (passed e) _ (is-free (again l)) _ (found-hit _ _ (sym (l .lowest-allocated .ensures) ∙ c .enum-told3 .given .1))
 
 sub-t7 : tie.Need-sub-t7
 sub-t7 c =

@@ -1,10 +1,10 @@
--- `steps::count_blocks` meets its contract. Assumes nothing.
+-- `steps::partition_counts` meets its contract. Assumes nothing.
 use native.Mathlib.Omega.{arith}
 use Rattle.flash_partition.proofs.UsableLaws.{usable-legal, usable-measured}
 use Rattle.flash.proofs.CountLaws.{counts-are}
 use borrow.Author.Needs.{needs}
-use Rattle.flash.proofs.steps.count_blocks.Statement.{statement}
-use Rattle.flash.proofs.steps.count_blocks.Tie as tie
+use Rattle.flash.proofs.steps.partition_counts.Statement.{statement}
+use Rattle.flash.proofs.steps.partition_counts.Tie as tie
 
 abbrev start : tie.After-shared-slice-known2 → tie.Start
 start c = c .before .before .before
@@ -14,8 +14,8 @@ returns c =
     let live = c .before .before .count-live in
     counts-are (start (c .before) .pre) (c .capacity .result) (live .result) (c .capacity .ensures) (live .ensures)
 
-pub count-blocks-spec : {M : Type 1} → statement M
-count-blocks-spec =
+pub partition-counts-spec : {M : Type 1} → statement M
+partition-counts-spec =
     tie.close
     (tie.spec
     (λ c κs. search needs)

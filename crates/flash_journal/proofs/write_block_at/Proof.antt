@@ -1,28 +1,28 @@
--- `flash_journal::put_block` meets its contract. Assumes nothing.
+-- `flash_journal::write_block_at` meets its contract. Assumes nothing.
 use mathlib.Core.Path.{ap, _∙_}
 use Rattle.flash_model.specs.Update.{withBlock}
-use Rattle.flash_measures.proofs.WithinLaws.{within}
-use Rattle.flash_journal.proofs.PartLaws.{put-block}
+use Rattle.flash_measures.proofs.WithinLaws.{is-within}
+use Rattle.flash_journal.proofs.PartLaws.{part-put}
 use borrow.Author.Needs.{needs}
-use Rattle.flash_journal.proofs.put_block.Statement.{statement}
-use Rattle.flash_journal.proofs.put_block.Tie as tie
+use Rattle.flash_journal.proofs.write_block_at.Statement.{statement}
+use Rattle.flash_journal.proofs.write_block_at.Tie as tie
 
 start-requires : tie.Need-start-requires
 start-requires c κs =
     let a = c .before .before in
-    let w = within (a .args .k) (a .pre .0) (a .pre .1 .0) in
+    let w = is-within (a .args .k) (a .pre .0) (a .pre .1 .0) in
     search needs
 
 add-end : tie.Need-add-end
 add-end c =
     let a = c .before .before .before in
-    let w = within (a .args .k) (a .pre .0) (a .pre .1 .0) in
+    let w = is-within (a .args .k) (a .pre .0) (a .pre .1 .0) in
     search needs
 
 part-write-block-end : tie.Need-part-write-block-end
 part-write-block-end c =
     let a = c .before .before .before in
-    let w = within (a .args .k) (a .pre .0) (a .pre .1 .0) in
+    let w = is-within (a .args .k) (a .pre .0) (a .pre .1 .0) in
     search needs
 
 returns : tie.Need-returns
@@ -30,10 +30,10 @@ returns c =
     let a = c .before .before .before .before .before .before .before in
     let w = c .before .before .write-block in
     rw (c .before .before .before .before .start .ensures)
-    (put-block (a .args .image .now) (w .last .0) (a .args .k) ∙ ap (withBlock (a .args .image .now) (a .args .k)) (w .ensures))
+    (part-put (a .args .image .now) (w .last .0) (a .args .k) ∙ ap (withBlock (a .args .image .now) (a .args .k)) (w .ensures))
 
-pub put-block-spec : {M : Type 1} → statement M
-put-block-spec =
+pub write-block-at-spec : {M : Type 1} → statement M
+write-block-at-spec =
     tie.close
     (tie.spec
     start-requires

@@ -1,4 +1,4 @@
--- `blocks::numbered` meets its contract. The loop's invariant: the blocks above k are passed. Assumes nothing.
+-- `blocks::highest_with_number` meets its contract. The loop's invariant: the blocks above k are passed. Assumes nothing.
 use Prim.Native.Nat.{_≤_}
 use mathlib.Core.Path.{_≡_, ap, _∙_}
 use native.Mathlib.Omega.{arith}
@@ -6,8 +6,8 @@ use borrow.Author.Tests.{eq-eqb, ne-eqb}
 use Rattle.flash_partition.specs.Search.{foundUpTo}
 use Rattle.flash_partition.proofs.SearchLaws.{passed, has-number-test, other-number}
 use borrow.Author.Needs.{needs}
-use Rattle.flash_partition.proofs.blocks.numbered.Statement.{statement}
-use Rattle.flash_partition.proofs.blocks.numbered.Tie as tie
+use Rattle.flash_partition.proofs.blocks.highest_with_number.Statement.{statement}
+use Rattle.flash_partition.proofs.blocks.highest_with_number.Tie as tie
 
 abbrev Inv-loop : tie.InvT-loop
 Inv-loop image m top number k₀ k = (k ≤ top) × (foundUpTo image number top ≡ foundUpTo image number k)
@@ -21,7 +21,7 @@ loop-holds c = c .pass-eights .ensures
 returns : tie.Need-returns Inv-loop μ-loop
 returns c =
     let w = c .before .word in
-    let part = c .before .before .part-from in
+    let part = c .before .before .block-at in
     let l = c .before .before .before .before .loop in
     let a = c .before .before .before .before .before .before .before .args in
     record {
@@ -33,7 +33,7 @@ returns c =
 loop-again : tie.Need-loop-again Inv-loop μ-loop
 loop-again c =
     let w = c .before .word in
-    let part = c .before .before .part-from in
+    let part = c .before .before .block-at in
     let l = c .before .before .before .before .loop in
     let a = c .before .before .before .before .before .before .before .args in
     let i = a .image .now in
@@ -52,8 +52,8 @@ returns-2 c =
       has-number = λ h. absurd (omega arith);
     }
 
-pub numbered-spec : {M : Type 1} → statement M
-numbered-spec =
+pub highest-with-number-spec : {M : Type 1} → statement M
+highest-with-number-spec =
     tie.close
     (tie.spec
     Inv-loop

@@ -1,16 +1,16 @@
--- `blocks::part_from` meets its contract. Assumes nothing.
+-- `blocks::block_at` meets its contract. Assumes nothing.
 use mathlib.Core.Path.{ap, _∙_}
 use native.Mathlib.Omega.{arith}
 use lib.ListN.{length}
 use Rattle.flash_model.proofs.ImageLaws.{block-length}
-use Rattle.flash_measures.proofs.WithinLaws.{Within, within}
+use Rattle.flash_measures.proofs.WithinLaws.{Within, is-within}
 use Rattle.flash_partition.proofs.PartLaws.{block-part}
 use borrow.Author.Needs.{needs}
-use Rattle.flash_partition.proofs.blocks.part_from.Statement.{statement}
-use Rattle.flash_partition.proofs.blocks.part_from.Tie as tie
+use Rattle.flash_partition.proofs.blocks.block_at.Statement.{statement}
+use Rattle.flash_partition.proofs.blocks.block_at.Tie as tie
 
 inside : (a : tie.Start) → Within (a .args .image .now) (a .args .m .size) (a .args .k)
-inside a = within (a .args .k) (a .pre .0) (a .pre .1)
+inside a = is-within (a .args .k) (a .pre .0) (a .pre .1)
 
 returns : tie.Need-returns
 returns c =
@@ -19,8 +19,8 @@ returns c =
     let is = block-part (a .args .image .now) (s .result) (a .args .k) (s .ensures) in
     (is, ap length is ∙ block-length (a .args .image .now) (a .args .k) (omega (arith, inside a .inside)))
 
-pub part-from-spec : {M : Type 1} → statement M
-part-from-spec =
+pub block-at-spec : {M : Type 1} → statement M
+block-at-spec =
     tie.close
     (tie.spec
     (λ c κs. (c .before .pre .0 .is-legal, omega (arith, inside (c .before) .before-bitmap)))

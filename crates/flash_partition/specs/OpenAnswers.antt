@@ -6,17 +6,17 @@ use mathlib.Core.List.{List}
 use lib.Dec.{eqb}
 use lib.ListN.{length}
 use Rattle.flash_model.specs.Partition.{first, lengthRow, headerRows, refusal, used}
-use Rattle.flash_partition.specs.declared.opening.Log.{Log}
+use Rattle.flash_partition.specs.declared.opening.OpenedLog.{OpenedLog}
 use Rattle.flash_partition.specs.declared.opening.Opened.{Opened}
-use Rattle.flash_partition.specs.declared.opening.Opened.the-variants.{Refused, Open}
+use Rattle.flash_partition.specs.declared.opening.Opened.the-variants.{Refused, Ready}
 
 -- Refusals 1 to 4: what the length and the header tell.
 unfoldable pub headerRefusal : List ℕ → ℕ → ℕ
 headerRefusal image partition = first (lengthRow image) (headerRows image partition)
 
 -- What the opening of a sound partition hands on.
-unfoldable pub logOf : List ℕ → Log
+unfoldable pub logOf : List ℕ → OpenedLog
 logOf image = record { m = record { size = length image }; used = used image }
 
 unfoldable pub openingOf : List ℕ → ℕ → Opened
-openingOf image partition = cond (eqb (refusal image partition) 0) (Open (logOf image)) (Refused (refusal image partition))
+openingOf image partition = cond (eqb (refusal image partition) 0) (Ready (logOf image)) (Refused (refusal image partition))
