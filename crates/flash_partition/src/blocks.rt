@@ -5,8 +5,8 @@ use flash_measures::BLOCK_BYTES;
 use flash_measures::Measures;
 use words::word;
 ghost use mathlib.Core.Path.{_≡_};
-ghost use mathlib.Core.Bool.{true, false};
-ghost use Prim.Native.Nat.{_-_, _≤_};
+ghost use mathlib.Core.Bool.{true};
+ghost use Prim.Native.Nat.{_≤_};
 ghost use lib.ListN.{length};
 ghost use Rattle.flash_model.specs.UserBlock as model;
 ghost use Rattle.flash_model.specs.Measures.{capacity, legalNumber};
@@ -14,7 +14,7 @@ ghost use Rattle.flash_model.specs.Partition.{blockAt, holder};
 ghost use Rattle.flash_measures.specs.HasMeasures.{HasMeasures};
 ghost use Rattle.flash_bitmap.specs.Found.{asFound};
 ghost use Rattle.flash_partition.specs.Usable.{Usable};
-ghost use Rattle.flash_partition.specs.Search.{foundUpTo, NextNumbered};
+ghost use Rattle.flash_partition.specs.Search.{foundUpTo, anyNumbered, NextNumbered};
 
 // The part of the image that block k is.
 pub fn block_at(image: &[u8], m: Measures, k: usize) -> &[u8]
@@ -39,7 +39,7 @@ pub fn right_checksum(part: &[u8]) -> bool
 fn any_of_eight(image: &[u8], m: Measures, k: usize, number: usize) -> bool
     requires { ⌜ HasMeasures (now image) (m .size) ⌝ }
     requires { ⌜ (8 ≤ k) × (k ≤ capacity (m .size)) ⌝ }
-    ensures { λ r. ⌜ (r ≡ false → foundUpTo (now (image .entry)) number k ≡ foundUpTo (now (image .entry)) number (k - 8)) ⌝ }
+    ensures { λ r. ⌜ r ≡ anyNumbered (now (image .entry)) number k 8 ⌝ }
 {
     let mut any = false;
     let mut j: usize = 0;

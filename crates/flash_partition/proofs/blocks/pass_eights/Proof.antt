@@ -1,8 +1,9 @@
 -- `blocks::pass_eights` meets its contract. The loop's invariant: the blocks above k are passed. Assumes nothing.
 use Prim.Native.Nat.{_≤_}
-use mathlib.Core.Path.{_≡_, refl, _∙_}
+use mathlib.Core.Path.{_≡_, refl, sym, _∙_}
 use native.Mathlib.Omega.{arith}
 use Rattle.flash_partition.specs.Search.{foundUpTo}
+use Rattle.flash_partition.proofs.SearchLaws.{none-numbered}
 use borrow.Author.Needs.{needs}
 use Rattle.flash_partition.proofs.blocks.pass_eights.Statement.{statement}
 use Rattle.flash_partition.proofs.blocks.pass_eights.Tie as tie
@@ -22,7 +23,7 @@ returns c = c .before .before .before .loop .inv
 loop-again : tie.Need-loop-again Inv-loop μ-loop
 loop-again c =
     let l = c .before .before .before .loop in
-    (omega arith, l .inv .1 ∙ c .before .any-of-eight .ensures (c .if1 .left))
+    (omega arith, l .inv .1 ∙ none-numbered _ _ _ _ (c .before .before .loop-test .taken) (sym (c .before .any-of-eight .ensures) ∙ c .if1 .left))
 
 returns-2 : tie.Need-returns-2 Inv-loop μ-loop
 returns-2 c = c .before .loop .inv
