@@ -1,6 +1,6 @@
 -- The kept ones of the blocks that a pass has before it, and the list of those that it has passed. Assumes nothing.
 use Prim.Native.Nat.{ℕ, zero, suc, _+_, _-_, _≤_, _<_}
-use mathlib.Core.Path.{_≡_, refl, sym, ap, _∙_}
+use mathlib.Core.Path.{_≡_, refl, sym, ap, subst, _∙_}
 use mathlib.Core.Bool.{Bool, true, false, cond, true≢false}
 use mathlib.Core.List.{List, [], _∷_, _++_, append-assoc, append-nil}
 use native.Mathlib.Omega.{arith}
@@ -9,6 +9,7 @@ use native.Mathlib.Decide.{ℕ-discrete, decLe}
 use lib.ListN.{length, set, drop, replicate, length-set, length-append, length-replicate}
 use lib.Seq.{getD-set-same, drop-cons, drop-length, drop-set-lt}
 use Rattle.words.specs.Lists.{keep, numbersFrom}
+use Rattle.flash_model.specs.Measures.{capacity}
 use Rattle.flash_model.specs.UserBlock.{number}
 use Rattle.flash_model.specs.Partition.{blockAt}
 use Rattle.flash_listing.specs.BlockTests.{isNew, mark, isKept, keptBlocks}
@@ -121,6 +122,16 @@ module _ {new : Bool} {marks image : List ℕ} {size end from k : ℕ} (f : Pass
 
   pub stops-last : k ≤ 0 → StopsAt new marks image size end from k
   stops-last z = record { pass-at = f; no-higher = high; stops = λ h. absurd (omega arith) }
+
+-- the end by its name and by what it is
+pub pass-end : {marks image : List ℕ} {size end k : ℕ} → end ≡ capacity size → PassAt marks image size (capacity size) k → PassAt marks image size end k
+pass-end {marks} {image} {size} {end} {k} e f = subst (λ (n : ℕ). PassAt marks image size n k) (sym e) f
+
+pub pass-capacity : {marks image : List ℕ} {size end k : ℕ} → PassAt marks image size end k → PassAt marks image size (capacity size) k
+pass-capacity {marks} {image} {size} {end} {k} f = subst (λ (n : ℕ). PassAt marks image size n k) (f .end-is) f
+
+pub stops-end : {new : Bool} {marks image : List ℕ} {size end from at : ℕ} → StopsAt new marks image size end from at → StopsAt new marks image size (capacity size) from at
+stops-end {new} {marks} {image} {size} {end} {from} {at} s = subst (λ (n : ℕ). StopsAt new marks image size n from at) (s .pass-at .end-is) s
 
 -- a run and what is passed over after it are at least one block
 pub stops-lower : {marks image : List ℕ} {size end from at to : ℕ} → 1 ≤ from → StopsAt false marks image size end from at → StopsAt true marks image size end at to → to < from

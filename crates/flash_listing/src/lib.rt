@@ -107,27 +107,25 @@ pub fn count_live(image: &[u8], log: OpenedLog) -> usize
     count
 }
 
-// Marks the numbers of a run of blocks as `count_run` does, and lists the blocks. Each new block is stored in front of the list,
-// which begins with it where its number is marked: the store has no branch either. It comes behind the checksum; in front of it
-// the pass took longer.
+// Marks the numbers of a run of blocks as `count_run` does, and lists the blocks: each new block is stored in front of the list,
+// which begins with it where its number is marked. The store comes behind the checksum; in front of it the pass took longer.
 fn list_run(
     image: &[u8],
     m: Measures,
-    end: usize,
     marks: &mut [u8],
     kept: &mut [u16],
-    listed: usize,
-    from: usize,
+    reached: Progress,
 ) -> Progress
-    requires { ⌜ PassAt (now marks) (now image) (m .size) end from ⌝ }
-    requires { ⌜ listed + from ≤ length (now kept) ⌝ }
-    ensures { λ r. ⌜ StopsAt false (now (marks .exit)) (now (image .entry)) (m .size) end from (r .at) ⌝ }
-    ensures { λ r. ⌜ r .count + r .at ≤ listed + from ⌝ }
-    ensures { λ r. ⌜ leftAndListed (now (marks .exit)) (now (image .entry)) (r .at) (r .count) (now (kept .exit)) ≡ leftAndListed (now (marks .entry)) (now (image .entry)) from listed (now (kept .entry)) ⌝ }
-    ensures { λ r. ⌜ MarksAdded (now (image .entry)) (now (marks .entry)) (now (marks .exit)) × ListGrown listed (r .count) (now (kept .entry)) (now (kept .exit)) ⌝ }
+    requires { ⌜ PassAt (now marks) (now image) (m .size) (capacity (m .size)) (reached .at) ⌝ }
+    requires { ⌜ reached .count + reached .at ≤ length (now kept) ⌝ }
+    ensures { λ r. ⌜ StopsAt false (now (marks .exit)) (now (image .entry)) (m .size) (capacity (m .size)) (reached .at) (r .at) ⌝ }
+    ensures { λ r. ⌜ r .count + r .at ≤ reached .count + reached .at ⌝ }
+    ensures { λ r. ⌜ leftAndListed (now (marks .exit)) (now (image .entry)) (r .at) (r .count) (now (kept .exit)) ≡ leftAndListed (now (marks .entry)) (now (image .entry)) (reached .at) (reached .count) (now (kept .entry)) ⌝ }
+    ensures { λ r. ⌜ MarksAdded (now (image .entry)) (now (marks .entry)) (now (marks .exit)) × ListGrown (reached .count) (r .count) (now (kept .entry)) (now (kept .exit)) ⌝ }
 {
-    let mut count = listed;
-    let mut k = from;
+    let end = m.capacity();
+    let mut count = reached.count;
+    let mut k = reached.at;
     while 0 < k {
         let part = block_at(image, m, k);
         if !is_new(part, end, &marks[..]) {
@@ -152,7 +150,7 @@ pub fn list_kept(image: &[u8], log: OpenedLog, marks: &mut [u8], kept: &mut [u16
     let mut count: usize = 0;
     let mut k = log.used;
     while 0 < k {
-        let run = list_run(image, log.m, end, marks, kept, count, k);
+        let run = list_run(image, log.m, marks, kept, Progress { at: k, count });
         count = run.count;
         k = pass_known(image, log.m, end, &marks[..], run.at);
     }

@@ -9,7 +9,7 @@ use Rattle.flash_listing.specs.BlockTests.{keptBlocks}
 use Rattle.flash_listing.specs.Passing.{PassAt, leftAndListed, MarksAdded, ListGrown}
 use Rattle.flash_listing.proofs.MarkLaws.{pass-first}
 use Rattle.flash_listing.proofs.LeftLaws.{added-none, added-then, marks-after, grown-none, grown-then}
-use Rattle.flash_listing.proofs.ListedLaws.{listed-first, listed-passed, listed-all, stops-lower}
+use Rattle.flash_listing.proofs.ListedLaws.{listed-first, listed-passed, listed-all, pass-end, pass-capacity, stops-end, stops-lower}
 use Rattle.flash_listing.proofs.list_kept.Statement.{statement}
 use Rattle.flash_listing.proofs.list_kept.Tie as tie
 
@@ -43,16 +43,18 @@ list-run-requires : tie.Need-list-run-requires Inv-loop μ-loop
 list-run-requires c κs =
     let l = c .before .before .before in
     let a = l .before .before .before .before .before in
-    (l .loop .inv .3, omega (arith, l .loop .inv .0, l .loop .inv .2, count-most (a .pre .0), a .pre .1 .1))
+    (pass-capacity (l .loop .inv .3), omega (arith, l .loop .inv .0, l .loop .inv .2, count-most (a .pre .0), a .pre .1 .1))
 
 pass-known-requires : tie.Need-pass-known-requires Inv-loop μ-loop
-pass-known-requires c κs = c .before .before .before .before .before .list-run .ensures .0 .pass-at
+pass-known-requires c κs =
+    let r = c .before .before .before .before .before in
+    pass-end (r .before .before .before .before .before .capacity .ensures) (r .list-run .ensures .0 .pass-at)
 
 loop-less : tie.Need-loop-less Inv-loop μ-loop
 loop-less c =
     let r = c .before .before .before .before .before .before in
     let t = r .before .before .before in
-    stops-lower (t .loop-test .taken) (r .list-run .ensures .0) (c .pass-known .ensures .0)
+    stops-lower (t .loop-test .taken) (r .list-run .ensures .0) (stops-end (c .pass-known .ensures .0))
 
 loop-again : tie.Need-loop-again Inv-loop μ-loop
 loop-again c =
@@ -62,8 +64,8 @@ loop-again c =
     let v = l .loop .inv in
     let s = c .pass-known .ensures in (
       omega (arith, v .0, r .list-run .ensures .1 .0, s .0 .no-higher),
-      r .list-run .kept .1 .1 .1 .0 ∙ v .1,
-      r .list-run .kept .1 .1 .1 .1 .0 ∙ v .2,
+      r .list-run .kept .1 .1 .0 ∙ v .1,
+      r .list-run .kept .1 .1 .1 .0 ∙ v .2,
       s .0 .pass-at,
       listed-passed _ i _ (r .list-run .result .at) (c .pass-known .result) (r .list-run .result .count)
           {before = leftAndListed (l .loop .marks) i (l .loop .k) (l .loop .count) (l .loop .kept)} (s .1) (r .list-run .ensures .1 .1 .0) (v .4),
