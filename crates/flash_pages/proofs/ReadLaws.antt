@@ -41,13 +41,13 @@ payload-part part block e = ap (λ (b : List ℕ). take 60 (drop 2 b)) e
 -- ---- read
 
 module _ {image : List ℕ} {log : OpenedLog} (u : Usable image log) (n : ℕ) (buffer : List ℕ) where
-  pub record ReadAs (code : ℕ) (left : List ℕ) : Type 0 where
-    pub code-is : code ≡ readRows image n buffer
-    pub buffer-is : left ≡ readBuffer image n buffer
+  -- what a read answers, and what it leaves in the buffer
+  abbrev pub ReadAs : ℕ → List ℕ → Type 0
+  ReadAs code left = (code ≡ readRows image n buffer) × (left ≡ readBuffer image n buffer)
 
   refused-as : (c : ℕ) → readRows image n buffer ≡ suc c → ReadAs (suc c) buffer
   unfolding readBuffer
-  refused-as c e = record { code-is = sym e; buffer-is = rw (e, ne-eqb (suc c) 0 (λ z. omega (arith, z))) }
+  refused-as c e = (sym e, rw (e, ne-eqb (suc c) 0 (λ z. omega (arith, z))))
 
   here : (b : Bool) → legalNumber (log .m .size) n ≡ b → legalNumber (length image) n ≡ b
   here b e = ap (λ (s : ℕ). legalNumber s n) (u .has-size) ∙ e
@@ -68,10 +68,10 @@ module _ {image : List ℕ} {log : OpenedLog} (u : Usable image log) (n : ℕ) (
 
       done : (page : List ℕ) → contents image n ≡ some page → ReadAs 0 page
       unfolding readRows readBuffer
-      done page e = record { code-is = rw (here true legal, l, e); buffer-is = rw (here true legal, l, e) }
+      done page e = (rw (here true legal, l, e), rw (here true legal, l, e))
 
       -- the payload of the block that was found
       pub read-0 : (k : ℕ) → asFound (holder image n) ≡ Hit k → (page : List ℕ) → page ≡ payload (blockAt image k) → ReadAs 0 page
       read-0 k f page e =
           let r = done (payload (blockAt image k)) (contents-at image n k f) in
-          record { code-is = r .code-is; buffer-is = e ∙ r .buffer-is }
+          (r .0, e ∙ r .1)

@@ -140,12 +140,12 @@ module _ {image : List ℕ} {log : OpenedLog} (u : Usable image log) where
 -- ---- the rows of a save
 
 module _ {image : List ℕ} {log : OpenedLog} (u : Usable image log) (n : ℕ) (expected page : List ℕ) where
-  pub record SaveAs (code : ℕ) (image′ : List ℕ) : Type 0 where
-    pub code-is : code ≡ saveRows image n expected page
-    pub image-is : image′ ≡ cond (eqb (saveRows image n expected page) 0) (saved image n page) image
+  -- what a save answers, and the image that it leaves
+  abbrev pub SaveAs : ℕ → List ℕ → Type 0
+  SaveAs code image′ = (code ≡ saveRows image n expected page) × (image′ ≡ cond (eqb (saveRows image n expected page) 0) (saved image n page) image)
 
   refused-as : (c : ℕ) → (c ≡ 0 → ⊥) → c ≡ saveRows image n expected page → SaveAs c image
-  refused-as c h e = record { code-is = e; image-is = rw (sym e, ne-eqb c 0 h) }
+  refused-as c h e = (e, rw (sym e, ne-eqb c 0 h))
 
   here : (b : Bool) → legalNumber (log .m .size) n ≡ b → legalNumber (length image) n ≡ b
   here b e = ap (λ (s : ℕ). legalNumber s n) (u .has-size) ∙ e
@@ -166,7 +166,7 @@ module _ {image : List ℕ} {log : OpenedLog} (u : Usable image log) (n : ℕ) (
 
       pub save-0 : 0 ≡ row 9 (changedSince image n expected) 0 → (image′ : List ℕ) → image′ ≡ saved image n page → SaveAs 0 image′
       unfolding saveRows
-      save-0 e image′ s = record { code-is = rw (here true legal, right) e; image-is = rw (here true legal, right, sym e) s }
+      save-0 e image′ s = (rw (here true legal, right) e, rw (here true legal, right, sym e) s)
 
   -- the page's length, where row 8 doesn't apply
   pub page-60 : wrongLengths expected page ≡ false → length page ≡ 60

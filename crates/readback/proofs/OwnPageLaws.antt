@@ -65,10 +65,10 @@ module _ (image : List ℕ) (partition n : ℕ) (expected page back : List ℕ) 
       → (a b : Reply) (back′ : List ℕ) → ownedAnswers (eqb n) steps ≡ a ∷ b ∷ [] → b .buffers ≡ back′ ∷ []
       → OwnPageBack image n page (final image steps) (b .code) back′
   unfolding storeReplies storeFinal storeReply
-  own-page-back steps chain calls a b back′ answers buffers =
+  own-page-back steps linked calls a b back′ answers buffers =
       let kept = storeAfter (length image) (headerNumber image) pages saving in
       let named : ownedCalls (eqb n) steps ≡ saving ∷ reading ∷ [] = calls ∙ ap (λ (p : ℕ). save p n expected page ∷ read p n back ∷ []) (own .names-it) in
-      let runs = demand3 .runs-as-store (eqb n) image steps (own .is-sound) chain in
+      let runs = demand3 .runs-as-store (eqb n) image steps (own .is-sound) linked in
       let all : a ∷ b ∷ [] ≡ storeReplies (length image) (headerNumber image) pages (saving ∷ reading ∷ []) =
       sym answers ∙ runs .answers ∙ ap (storeReplies (length image) (headerNumber image) pages) named in
       let last : b ≡ storeReply (length image) (headerNumber image) kept reading = cc in

@@ -1,9 +1,13 @@
 -- `flash_pages::changed_row` meets its contract: each `return` is a case of row 9. Assumes nothing.
 use Prim.Native.Nat.{ℕ}
-use mathlib.Core.Path.{sym, ap, _∙_}
+use mathlib.Core.Path.{_≡_, sym, ap, _∙_}
 use mathlib.Core.Bool.{true, false}
 use mathlib.Core.List.{List}
 use Rattle.words.specs.Words.{sameBytes}
+use Rattle.flash_model.specs.UserBlock.{payload}
+use Rattle.flash_model.specs.Partition.{blockAt, holder}
+use Rattle.flash_bitmap.specs.Found.{asFound}
+use Rattle.flash_bitmap.specs.declared.Found.the-variants.{Hit}
 use Rattle.flash_partition.proofs.UsableLaws.{usable-has}
 use Rattle.flash_pages.proofs.ReadLaws.{found-high, payload-part}
 use Rattle.flash_pages.proofs.StoreRules.{nothing-there, page-there, nothing-left, compared}
@@ -11,45 +15,39 @@ use borrow.Author.Needs.{needs}
 use Rattle.flash_pages.proofs.changed_row.Statement.{statement}
 use Rattle.flash_pages.proofs.changed_row.Tie as tie
 
+-- from the search to the start, from the block found to the start, and from the comparison to that block
+abbrev start : tie.After-find → tie.Start
+start c = c .before .before .before
+
+abbrev asked : tie.After-holder → tie.Start
+asked c = start (c .before .before .before)
+
+abbrev placed : tie.After-same → tie.After-holder
+placed c = c .before .before .before .before
+
+holds : (c : tie.After-holder) → asFound (holder (asked c .args .image .now) (asked c .args .number)) ≡ Hit (c .holder .given .0 .0)
+holds c = sym (c .before .before .before .find .ensures) ∙ c .holder .given .1
+
+-- the page that is there against what is expected
+page-same : (c : tie.After-same)
+    → c .same .result ≡ sameBytes (payload (blockAt (asked (placed c) .args .image .now) (placed c .holder .given .0 .0))) (asked (placed c) .args .expected .now)
+page-same c =
+    c .same .ensures ∙ ap (λ (l : List ℕ). sameBytes l (asked (placed c) .args .expected .now)) (payload-part _ _ (c .before .before .block-at .ensures .0))
+
 returns : tie.Need-returns
 returns c =
-    let a = c .before .before .before .before .before .before in
-    let u = a .pre .0 in
-    page-there u (a .args .number) (a .args .expected .now) (c .before .before .if1 .taken) _ (sym (c .before .before .before .find .ensures) ∙ c .enum-told2 .given .1)
+    let t = c .before .before in
+    page-there (start (t .before) .pre .0) _ _ (t .if1 .taken) _ (sym (t .before .find .ensures) ∙ c .enum-told2 .given .1)
 
 returns-2 : tie.Need-returns-2
 returns-2 c =
-    let a = c .before .before .before .before .before .before in
-    let u = a .pre .0 in
-    nothing-there u (a .args .number) (a .args .expected .now) (c .before .before .if1 .taken) (sym (c .before .before .before .find .ensures) ∙ c .enum-told .given .1)
+    let t = c .before .before in
+    nothing-there (start (t .before) .pre .0) _ _ (t .if1 .taken) (sym (t .before .find .ensures) ∙ c .enum-told .given .1)
 
 returns-3 : tie.Need-returns-3
 returns-3 c =
-    let a = c .before .before .before .before .before .before in
-    let u = a .pre .0 in
-    nothing-left u (a .args .number) (a .args .expected .now) (c .before .before .if1 .left) (sym (c .before .before .before .find .ensures) ∙ c .enum-told3 .given .1)
-
-block-at-requires : tie.Need-block-at-requires
-block-at-requires c κs =
-    let a = c .before .before .before .before .before .before .before in
-    let u = a .pre .0 in
-    (usable-has u, found-high u (a .args .number) _ (sym (c .before .before .before .before .find .ensures) ∙ c .before .holder .given .1))
-
-returns-4 : tie.Need-returns-4
-returns-4 c =
-    let a = c .before .before .before .before .before .before .before .before .before .before .before in
-    let u = a .pre .0 in
-    let part = c .before .before .before .block-at in
-    compared u (a .args .number) (a .args .expected .now) _ (sym (c .before .before .before .before .before .before .before .before .find .ensures) ∙ c .before .before .before .before .before .holder .given .1) true
-    (sym (c .if2 .taken) ∙ c .before .same .ensures ∙ ap (λ (l : List ℕ). sameBytes l (a .args .expected .now)) (payload-part (part .result .now) _ (part .ensures .0)))
-
-returns-5 : tie.Need-returns-5
-returns-5 c =
-    let a = c .before .before .before .before .before .before .before .before .before .before .before in
-    let u = a .pre .0 in
-    let part = c .before .before .before .block-at in
-    compared u (a .args .number) (a .args .expected .now) _ (sym (c .before .before .before .before .before .before .before .before .find .ensures) ∙ c .before .before .before .before .before .holder .given .1) false
-    (sym (c .if2 .left) ∙ c .before .same .ensures ∙ ap (λ (l : List ℕ). sameBytes l (a .args .expected .now)) (payload-part (part .result .now) _ (part .ensures .0)))
+    let t = c .before .before in
+    nothing-left (start (t .before) .pre .0) _ _ (t .if1 .left) (sym (t .before .find .ensures) ∙ c .enum-told3 .given .1)
 
 pub changed-row-spec : {M : Type 1} → statement M
 changed-row-spec =
@@ -63,10 +61,10 @@ changed-row-spec =
     (λ c. search needs)
     (λ c. search needs)
     returns-3
-    block-at-requires
+    (λ c κs. let u = asked (c .before) .pre .0 in (usable-has u, found-high u _ _ (holds (c .before))))
     (λ c. search needs)
     (λ c. search needs)
     (λ c. search needs)
     (λ c κs. search needs)
-    returns-4
-    returns-5)
+    (λ c. let k = placed (c .before) in compared (asked k .pre .0) _ _ _ (holds k) true (sym (c .if2 .taken) ∙ page-same (c .before)))
+    (λ c. let k = placed (c .before) in compared (asked k .pre .0) _ _ _ (holds k) false (sym (c .if2 .left) ∙ page-same (c .before))))

@@ -1,6 +1,9 @@
 -- `flash_pages::save_page` meets its contract: each `return` is a row of the table. Assumes nothing.
-use mathlib.Core.Path.{sym, _∙_}
+use mathlib.Core.Path.{_≡_, sym, _∙_}
+use mathlib.Core.Bool.{true, false}
 use borrow.Author.Tests.{not-true, not-false}
+use Rattle.flash_model.specs.Measures.{legalNumber}
+use Rattle.flash_model.specs.Calls.{wrongLengths}
 use Rattle.flash_model.proofs.MeasureLaws.{legal-le}
 use Rattle.flash_partition.proofs.UsableLaws.{usable-legal}
 use Rattle.flash_pages.proofs.StoreRules.{save-6, save-8, save-9, save-0, page-60}
@@ -8,75 +11,61 @@ use borrow.Author.Needs.{needs}
 use Rattle.flash_pages.proofs.save_page.Statement.{statement}
 use Rattle.flash_pages.proofs.save_page.Tie as tie
 
-legal-number-requires : tie.Need-legal-number-requires
-legal-number-requires c κs =
-    let a = c .before .before .before in
-    let u = a .pre in
-    usable-legal u
+-- ---- the places behind the tests, each from the one after it
+
+abbrev start : tie.After-legal-number → tie.Start
+start c = c .before .before .before .before
+
+abbrev past-6 : tie.Else2 → tie.Else1
+past-6 c = c .before .before
+
+abbrev past-8 : tie.After-changed-row → tie.Else2
+past-8 c = c .before .before
+
+abbrev asked : tie.Else2 → tie.Start
+asked c = start (past-6 c .before)
+
+legal : (c : tie.Else1) → legalNumber (start (c .before) .args .log .m .size) (start (c .before) .args .number) ≡ true
+legal c = sym (c .before .legal-number .ensures) ∙ not-false _ (c .if1 .left)
+
+right : (c : tie.Else2) → wrongLengths (asked c .args .expected .now) (asked c .args .page .now) ≡ false
+right c = sym (c .before .wrong-lengths .ensures) ∙ c .if2 .left
 
 returns : tie.Need-returns
-returns c =
-    let a = c .before .before .before .before .before in
-    let u = a .pre in
-    let r = save-6 u (a .args .number) (a .args .expected .now) (a .args .page .now) (sym (c .before .legal-number .ensures) ∙ not-true _ (c .if1 .taken)) in
-    (r .code-is, r .image-is)
+returns c = save-6 (start (c .before) .pre) _ _ _ (sym (c .before .legal-number .ensures) ∙ not-true _ (c .if1 .taken))
 
 returns-2 : tie.Need-returns-2
 returns-2 c =
-    let a = c .before .before .before .before .before .before .before in
-    let u = a .pre in
-    let l = c .before .before in
-    let legal = sym (l .before .legal-number .ensures) ∙ not-false _ (l .if1 .left) in
-    let r = save-8 u (a .args .number) (a .args .expected .now) (a .args .page .now) legal (sym (c .before .wrong-lengths .ensures) ∙ c .if2 .taken) in
-    (r .code-is, r .image-is)
-
-changed-row-requires : tie.Need-changed-row-requires
-changed-row-requires c κs =
-    let l = c .before .before .before in
-    (l .before .before .before .before .before .pre, sym (l .before .legal-number .ensures) ∙ not-false _ (l .if1 .left))
+    let e = c .before .before in
+    save-8 (start (e .before) .pre) _ _ _ (legal e) (sym (c .before .wrong-lengths .ensures) ∙ c .if2 .taken)
 
 returns-3 : tie.Need-returns-3
 returns-3 c =
-    let a = c .before .before .before .before .before .before .before .before .before .before in
-    let u = a .pre in
-    let l = c .before .before .before .before .before in
-    let legal = sym (l .before .legal-number .ensures) ∙ not-false _ (l .if1 .left) in
-    let w = c .before .before .before in
-    let right = sym (w .before .wrong-lengths .ensures) ∙ w .if2 .left in
-    let r = save-9 u (a .args .number) (a .args .expected .now) (a .args .page .now) legal right _ (c .before .changed-row .ensures) (c .if3 .taken) in
-    (r .code-is, r .image-is)
+    let e = past-8 (c .before) in
+    save-9 (asked e .pre) _ _ _ (legal (past-6 e)) (right e) _ (c .before .changed-row .ensures) (c .if3 .taken)
 
 store-requires : tie.Need-store-requires
 store-requires c κs =
-    let a = c .before .before .before .before .before .before .before .before .before .before .before in
-    let s = a .args .log .m .size in
-    let u = a .pre in
-    let l = c .before .before .before .before .before .before in
-    let legal = sym (l .before .legal-number .ensures) ∙ not-false _ (l .if1 .left) in
-    let w = c .before .before .before .before in
-    let right = sym (w .before .wrong-lengths .ensures) ∙ w .if2 .left in
-    (u, (legal-le s (a .args .number) legal, page-60 u (a .args .number) (a .args .expected .now) (a .args .page .now) right))
+    let e = past-8 (c .before .before) in
+    let a = asked e in
+    (a .pre, (legal-le (a .args .log .m .size) (a .args .number) (legal (past-6 e)), page-60 (a .pre) (a .args .number) (a .args .expected .now) (a .args .page .now) (right e)))
 
 returns-4 : tie.Need-returns-4
 returns-4 c =
-    let a = c .before .before .before .before .before .before .before .before .before .before .before .before .before .before in
-    let u = a .pre in
-    let l = c .before .before .before .before .before .before .before .before .before in
-    let legal = sym (l .before .legal-number .ensures) ∙ not-false _ (l .if1 .left) in
-    let w = c .before .before .before .before .before .before .before in
-    let right = sym (w .before .wrong-lengths .ensures) ∙ w .if2 .left in
-    let r = save-0 u (a .args .number) (a .args .expected .now) (a .args .page .now) legal right (sym (c .before .before .before .before .if3 .left) ∙ c .before .before .before .before .before .changed-row .ensures) _ (c .before .before .store .ensures) in
-    (r .code-is, r .image-is)
+    let s = c .before .before in
+    let t = s .before .before in
+    let e = past-8 (t .before) in
+    save-0 (asked e .pre) _ _ _ (legal (past-6 e)) (right e) (sym (t .if3 .left) ∙ t .before .changed-row .ensures) _ (s .store .ensures)
 
 pub save-page-spec : {M : Type 1} → statement M
 save-page-spec =
     tie.close
     (tie.spec
-    legal-number-requires
+    (λ c κs. usable-legal (c .before .before .before .pre))
     returns
     (λ c κs. search needs)
     returns-2
-    changed-row-requires
+    (λ c κs. (asked (c .before) .pre, legal (past-6 (c .before))))
     (λ c. search needs)
     returns-3
     store-requires

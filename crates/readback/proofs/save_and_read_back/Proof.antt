@@ -13,45 +13,58 @@ use borrow.Author.Needs.{needs}
 use Rattle.readback.proofs.save_and_read_back.Statement.{statement}
 use Rattle.readback.proofs.save_and_read_back.Tie as tie
 
-abbrev step : Call → Reply → List ℕ → Step
-step made answer image′ = record { made = made; answer = answer; image′ = image′ }
+-- the calls that change the image, each from the one after it
+abbrev erased : tie.After-read → tie.After-erase
+erased c = c .before .before .before .before .before
+
+abbrev saved-other : tie.After-report → tie.After-save2
+saved-other c = c .before .before .before .before
+
+abbrev saved : tie.After-check → tie.After-save
+saved c = c .before .before .before .before
+
+abbrev start : tie.After-save → tie.Start
+start c = c .before .before .before .before .before .before .before
+
+abbrev made-step : Call → Reply → List ℕ → Step
+made-step made answer image′ = record { made = made; answer = answer; image′ = image′ }
 
 returns : tie.Need-returns
 returns c =
-    let a = c .before .before .before .before .before .before .before .before .before .before .before .before .before .before .before .before .before .before .before .before .before .before .before .before .before .before .before .before in
-    let i = a .args .image .now in
-    let p = a .args .partition in
-    let n = a .args .number in
-    let e = a .args .expected .now in
-    let page = a .args .page .now in
-    let others = a .args .others .now in
-    let back = a .args .back .now in
-    let one = c .before .before .before .before .before .before .before .before .before .before .before .before .before .before .before .before .before .before .before .before .before .save in
-    let two = c .before .before .before .before .before .before .before .before .before .before .before .before .before .before .before .save2 in
-    let three = c .before .before .before .before .before .before .before .erase in
-    let last = c .before .before .read in
-    let i1 = one .last .0 in
-    let i2 = two .last .0 in
-    let i3 = three .last .0 in
-    let left = last .last .1 .1 .1 .0 in
-    let checked = c .before .before .before .before .before .before .before .before .before .before .before .before .before .before .before .before .before .check in
-    let counted = c .before .before .before .before .before .before .before .before .before .before .before .report in
-    let looked = c .before .before .before .before .before .before .before .before .before .next-live in
+    let r = c .before .before in
+    let e = erased r in
+    let l = e .before .before in
+    let t = l .before .before in
+    let o = saved-other t in
+    let k = o .before .before in
+    let s = saved k in
+    let a = start s .args in
+    let p = a .partition in
+    let n = a .number in
+    let x = a .expected .now in
+    let page = a .page .now in
+    let i1 = s .save .last .0 in
+    let i2 = o .save2 .last .0 in
+    let i3 = e .erase .last .0 in
+    let left = r .read .last .1 .1 .1 .0 in
+    let first = codeAnswer (s .save .result) (x ∷ page ∷ []) in
+    let last = codeAnswer (r .read .result) (left ∷ []) in
     let steps : List Step =
-    step (onPage (save p n e page)) (codeAnswer (one .result) (e ∷ page ∷ [])) i1
-    ∷ step (onWhole (check p)) (codeAnswer (checked .result) []) i1
-    ∷ step (onPage (save p (a .args .other) page others)) (codeAnswer (two .result) (page ∷ others ∷ [])) i2
-    ∷ step (onWhole (report p)) (reportAnswer (counted .result)) i2
-    ∷ step (onWhole (nextLive p n)) (nextAnswer (looked .result)) i2
-    ∷ step (onWhole (erase p)) (codeAnswer (three .result) []) i3
-    ∷ step (onPage (read p n back)) (codeAnswer (last .result) (left ∷ [])) i3
+    made-step (onPage (save p n x page)) first i1
+    ∷ made-step (onWhole (check p)) (codeAnswer (k .check .result) []) i1
+    ∷ made-step (onPage (save p (a .other) page (a .others .now))) (codeAnswer (o .save2 .result) (page ∷ a .others .now ∷ [])) i2
+    ∷ made-step (onWhole (report p)) (reportAnswer (t .report .result)) i2
+    ∷ made-step (onWhole (nextLive p n)) (nextAnswer (l .next-live .result)) i2
+    ∷ made-step (onWhole (erase p)) (codeAnswer (e .erase .result) []) i3
+    ∷ made-step (onPage (read p n (a .back .now))) last i3
     ∷ [] in
-    let chain : Chain i steps = (one .ensures, (checked .ensures, (two .ensures, (counted .ensures, (looked .ensures, (three .ensures, (last .ensures, tt))))))) in
+    let linked : Chain (a .image .now) steps =
+    (s .save .ensures, (k .check .ensures, (o .save2 .ensures, (t .report .ensures, (l .next-live .ensures, (e .erase .ensures, (r .read .ensures, tt))))))) in
     let mine = eq-eqb n n refl in (
-      final-read i p n e page (a .args .other) others back i1 i2 i3 _ _ _ _ (one .ensures) (two .ensures) (three .ensures) (last .ensures),
+      final-read _ p n x page (a .other) (a .others .now) (a .back .now) i1 i2 i3 _ _ _ _ (s .save .ensures) (o .save2 .ensures) (e .erase .ensures) (r .read .ensures),
       λ own apart.
-          let theirs = ne-eqb n (a .args .other) (λ q. apart (sym q)) in
-          own-page-back i p n e page back own steps chain (rw (mine, theirs)) (codeAnswer (one .result) (e ∷ page ∷ [])) (codeAnswer (last .result) (left ∷ [])) left (rw (mine, theirs)) refl,
+          let theirs = ne-eqb n (a .other) (λ q. apart (sym q)) in
+          own-page-back _ p n x page (a .back .now) own steps linked (rw (mine, theirs)) first last left (rw (mine, theirs)) refl,
     )
 
 pub save-and-read-back-spec : {M : Type 1} → statement M

@@ -4,7 +4,7 @@ use mathlib.Core.Path.{_≡_, sym, ap, ap₂, _∙_}
 use mathlib.Core.Bool.{_&&_}
 use native.Mathlib.Omega.{arith}
 use Rattle.flash_model.specs.UserBlock.{rightChecksum}
-use Rattle.flash_model.specs.Partition.{holder}
+use Rattle.flash_model.specs.Partition.{copyAt, holder}
 use Rattle.flash_bitmap.specs.Found.{asFound}
 use Rattle.flash_partition.specs.Search.{foundUpTo}
 use Rattle.flash_partition.proofs.SearchLaws.{from-used, found-here, passed, none-left}
@@ -19,60 +19,45 @@ Inv-loop image log number k₀ k = (k ≤ log .used) × (asFound (holder image n
 abbrev μ-loop : tie.MeasureT-loop
 μ-loop image log number k₀ k = k
 
-loop-holds : tie.Need-loop-holds Inv-loop μ-loop
-loop-holds c =
-    let s = c .before in
-    (omega arith, from-used (s .pre .0) (s .args .number) (s .pre .1))
+-- from the block that has the number to the loop's head and the start, and from behind its checksum to that block
+abbrev head : tie.After-highest-with-number Inv-loop μ-loop → tie.At-loop Inv-loop μ-loop
+head c = c .before .before
 
-highest-with-number-requires : tie.Need-highest-with-number-requires Inv-loop μ-loop
-highest-with-number-requires c κs =
-    let s = c .before .before .before in
-    let u = s .pre .0 in
-    (usable-has u, omega (arith, c .before .loop .inv .0, count-most u))
+abbrev start : tie.After-highest-with-number Inv-loop μ-loop → tie.Start Inv-loop μ-loop
+start c = head c .before .before
 
-returns : tie.Need-returns Inv-loop μ-loop
-returns c =
-    let f = c .before .highest-with-number in
-    let l = c .before .before .before .loop in
-    let a = c .before .before .before .before .before .args in
-    sym (l .inv .1 ∙ f .ensures .same ∙ none-left (a .image .now) (a .number) (f .result) (omega arith))
+abbrev seen : tie.After-right-checksum Inv-loop μ-loop → tie.Else1 Inv-loop μ-loop
+seen c = c .before .before
+
+reached : (c : tie.After-highest-with-number Inv-loop μ-loop)
+    → asFound (holder (start c .args .image .now) (start c .args .number)) ≡ foundUpTo (start c .args .image .now) (start c .args .number) (c .highest-with-number .result)
+reached c = head c .loop .inv .1 ∙ c .highest-with-number .ensures .same
+
+above : (c : tie.Else1 Inv-loop μ-loop) → 0 < c .before .highest-with-number .result
+above c = omega (arith, c .if1 .left)
+
+-- the block is a copy if its checksum is right
+is-copy : (c : tie.After-right-checksum Inv-loop μ-loop)
+    → copyAt (start (seen c .before) .args .image .now) (start (seen c .before) .args .number) (seen c .before .highest-with-number .result) ≡ c .right-checksum .result
+is-copy c =
+    ap₂ _&&_ (seen c .before .highest-with-number .ensures .has-number (above (seen c))) (ap rightChecksum (sym (c .before .block-at .ensures .0)) ∙ sym (c .right-checksum .ensures))
 
 block-at-requires : tie.Need-block-at-requires Inv-loop μ-loop
 block-at-requires c κs =
-    let s = c .before .before .before .before .before in
-    let u = s .pre .0 in
-    (usable-has u, omega (arith, c .before .before .before .loop .inv .0, c .before .highest-with-number .ensures .below, count-most u))
+    let u = start (c .before) .pre .0 in
+    (usable-has u, omega (arith, head (c .before) .loop .inv .0, c .before .highest-with-number .ensures .below, count-most u))
 
 returns-2 : tie.Need-returns-2 Inv-loop μ-loop
 returns-2 c =
-    let f = c .before .before .before .before .highest-with-number in
-    let l = c .before .before .before .before .before .before .loop in
-    let a = c .before .before .before .before .before .before .before .before .args in
-    let above : 0 < f .result = omega (arith, c .before .before .before .if1 .left) in
-    let right = ap rightChecksum (sym (c .before .before .block-at .ensures .0)) ∙ sym (c .before .right-checksum .ensures) ∙ c .if2 .taken in
-    sym (l .inv .1 ∙ f .ensures .same ∙ found-here (a .image .now) (a .number) (f .result) above (ap₂ _&&_ (f .ensures .has-number above) right))
-
-loop-less : tie.Need-loop-less Inv-loop μ-loop
-loop-less c =
-    let f = c .before .before .before .before .highest-with-number in
-    omega (arith, c .before .before .before .if1 .left, f .ensures .below)
+    let e = seen (c .before) in
+    sym (reached (e .before) ∙ found-here _ _ _ (above e) (is-copy (c .before) ∙ c .if2 .taken))
 
 loop-again : tie.Need-loop-again Inv-loop μ-loop
 loop-again c =
-    let f = c .before .before .before .before .highest-with-number in
-    let l = c .before .before .before .before .before .before .loop in
-    let a = c .before .before .before .before .before .before .before .before .args in
-    let above : 0 < f .result = omega (arith, c .before .before .before .if1 .left) in
-    let wrong = ap rightChecksum (sym (c .before .before .block-at .ensures .0)) ∙ sym (c .before .right-checksum .ensures) ∙ c .if2 .left in (
-      omega (arith, f .ensures .below, l .inv .0),
-      l .inv .1 ∙ f .ensures .same ∙ passed (a .image .now) (a .number) (f .result) above (ap₂ _&&_ (f .ensures .has-number above) wrong),
+    let e = seen (c .before) in (
+      omega (arith, e .before .highest-with-number .ensures .below, head (e .before) .loop .inv .0),
+      reached (e .before) ∙ passed _ _ _ (above e) (is-copy (c .before) ∙ c .if2 .left),
     )
-
-returns-3 : tie.Need-returns-3 Inv-loop μ-loop
-returns-3 c =
-    let a = c .before .before .before .args in
-    let l = c .before .loop in
-    sym (l .inv .1 ∙ none-left (a .image .now) (a .number) (l .k) (c .loop-test .left))
 
 pub find-spec : {M : Type 1} → statement M
 find-spec =
@@ -80,13 +65,13 @@ find-spec =
     (tie.spec
     Inv-loop
     μ-loop
-    loop-holds
-    highest-with-number-requires
-    returns
+    (λ c. (omega arith, from-used (c .before .pre .0) (c .before .args .number) (c .before .pre .1)))
+    (λ c κs. let u = c .before .before .before .pre .0 in (usable-has u, omega (arith, c .before .loop .inv .0, count-most u)))
+    (λ c. sym (reached (c .before) ∙ none-left _ _ _ (omega arith)))
     block-at-requires
     (λ c κs. search needs)
     returns-2
     (λ c. search needs)
-    loop-less
+    (λ c. let e = seen (c .before) in omega (arith, e .if1 .left, e .before .highest-with-number .ensures .below))
     loop-again
-    returns-3)
+    (λ c. sym (c .before .loop .inv .1 ∙ none-left _ _ _ (c .loop-test .left))))
