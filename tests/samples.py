@@ -43,10 +43,10 @@ def values(text):
 
 
 def table_rows():
-    """The expected values of each row, in the order in which cardSamples puts the lists of rows together."""
+    """The expected values of each row, in the order in which allCardSamples puts the lists of rows together."""
     text = re.sub(r"--[^\n]*", "", TABLE.read_text(encoding="utf-8"))
     lists = dict(re.findall(r"^(\w+Samples) =(.*?)(?=^unfoldable|\Z)", text, re.M | re.S))
-    (order,) = groups(lists.pop("cardSamples").split("concat")[1])
+    (order,) = groups(lists.pop("allCardSamples").split("concat")[1])
     for name in re.findall(r"\w+Samples", order):
         for row in lists.pop(name).split("sampleOf")[1:]:
             _, expected = groups(row)

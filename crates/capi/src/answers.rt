@@ -54,7 +54,7 @@ pub struct CardVerdictAnswer {
     pub place: u64,
 }
 
-pub fn report_answer(summary: Summary) -> ReportAnswer
+pub fn report_of(summary: Summary) -> ReportAnswer
     ensures { λ r. ⌜ r ≡ reportOf (reportAnswer summary) ⌝ }
 {
     match summary {
@@ -75,7 +75,7 @@ pub fn report_answer(summary: Summary) -> ReportAnswer
     }
 }
 
-pub fn next_live_answer(next: LiveNumber) -> NextLiveAnswer
+pub fn next_live_of(next: LiveNumber) -> NextLiveAnswer
     ensures { λ r. ⌜ r ≡ nextLiveOf (nextAnswer next) ⌝ }
 {
     match next {
@@ -110,7 +110,7 @@ fn place_number(place: Place) -> u64
     }
 }
 
-pub fn card_verdict(verdict: Verdict) -> CardVerdictAnswer
+pub fn card_verdict_of(verdict: Verdict) -> CardVerdictAnswer
     ensures { λ r. ⌜ r ≡ cardVerdictOf verdict ⌝ }
 {
     let place = verdict.place;

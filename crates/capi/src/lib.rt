@@ -9,9 +9,9 @@ use answers::CardEntryAnswer;
 use answers::CardVerdictAnswer;
 use answers::NextLiveAnswer;
 use answers::ReportAnswer;
-use answers::card_verdict;
-use answers::next_live_answer;
-use answers::report_answer;
+use answers::card_verdict_of;
+use answers::next_live_of;
+use answers::report_of;
 ghost use mathlib.Core.Path.{_≡_};
 ghost use mathlib.Core.List.{[], _∷_};
 ghost use Rattle.flash_model.specs.Calls.{Answered, replyTo, Call.onPage, Call.onWhole, PageCall.read, PageCall.save, WholeCall.check, WholeCall.report, WholeCall.nextLive, WholeCall.erase};
@@ -40,14 +40,14 @@ pub extern "C" fn galtuyeg_flash_check(image: &[u8], partition: u8) -> u32
 pub extern "C" fn galtuyeg_flash_report(image: &[u8], partition: u8) -> ReportAnswer
     ensures { λ r. ⌜ r ≡ reportOf (replyTo (now (image .entry)) (onWhole (report partition))) ⌝ }
 {
-    report_answer(flash::report(image, partition))
+    report_of(flash::report(image, partition))
 }
 
 #[no_mangle]
 pub extern "C" fn galtuyeg_flash_next_live(image: &[u8], partition: u8, from: u64) -> NextLiveAnswer
     ensures { λ r. ⌜ r ≡ nextLiveOf (replyTo (now (image .entry)) (onWhole (nextLive partition from))) ⌝ }
 {
-    next_live_answer(flash::next_live(image, partition, from as usize))
+    next_live_of(flash::next_live(image, partition, from as usize))
 }
 
 #[no_mangle]
@@ -87,7 +87,7 @@ pub extern "C" fn galtuyeg_card_check(card: &[u8]) -> CardCheckAnswer
     ensures { λ r. ⌜ r ≡ cardCheckOf (checkOf (now (card .entry))) ⌝ }
 {
     let checked = card::check(card);
-    let verdict = card_verdict(checked.verdict);
+    let verdict = card_verdict_of(checked.verdict);
     CardCheckAnswer {
         code: verdict.code,
         place_kind: verdict.place_kind,
@@ -101,7 +101,7 @@ pub extern "C" fn galtuyeg_card_list(card: &[u8], from: u64) -> CardEntryAnswer
     ensures { λ r. ⌜ r ≡ cardEntryOf (listOf (now (card .entry)) from) ⌝ }
 {
     let listing = card::list(card, from as usize);
-    let verdict = card_verdict(listing.verdict);
+    let verdict = card_verdict_of(listing.verdict);
     let name = listing.name;
     let time = listing.time;
     CardEntryAnswer {
@@ -129,5 +129,5 @@ pub extern "C" fn galtuyeg_card_read(
     ensures { λ r. ⌜ r ≡ cardVerdictOf (readVerdict (now (card .entry)) (now (name .entry)) index (now (block .entry))) ⌝ }
     ensures { λ _. ⌜ now (block .exit) ≡ readBuffer (now (card .entry)) (now (name .entry)) index (now (block .entry)) ⌝ }
 {
-    card_verdict(card::read(card, name, index as usize, block))
+    card_verdict_of(card::read(card, name, index as usize, block))
 }

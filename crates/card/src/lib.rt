@@ -64,7 +64,7 @@ fn not_listed(verdict: Verdict) -> Listing
 }
 
 // Entry i, from its own bytes.
-fn listed(i: usize, found: &[u8]) -> Listing
+fn listing_of(i: usize, found: &[u8]) -> Listing
     requires { ⌜ length (now found) ≡ 32 ⌝ }
     ensures { λ r. ⌜ r ≡ listedEntry i (now (found .entry)) ⌝ }
 {
@@ -95,10 +95,10 @@ pub fn list(card: &[u8], from: usize) -> Listing
     if opened.verdict.number != 0 {
         return not_listed(opened.verdict);
     }
-    let FoundEntry::At(i) = first_used(&used, opened.count, from) else {
+    let FoundEntry::Hit(i) = first_used(&used, opened.count, from) else {
         return not_listed(refused_at(31, Place::Whole));
     };
-    listed(i, entry::entry_at(card, i))
+    listing_of(i, entry::entry_at(card, i))
 }
 
 // Refusal 32 of a read from the file of entry i, or its block.
@@ -134,7 +134,7 @@ pub fn read(card: &[u8], name: &[u8], index: usize, block: &mut [u8]) -> Verdict
     if block.len() != 512 {
         return refused_at(33, Place::Whole);
     }
-    let FoundEntry::At(i) = find_named(card, &used, opened.count, name) else {
+    let FoundEntry::Hit(i) = find_named(card, &used, opened.count, name) else {
         return refused_at(31, Place::Whole);
     };
     read_block(card, i, index, block)

@@ -55,8 +55,8 @@ module _ (table : List ℕ) where
     marked = λ bs f. absurd (false≢true (sym (ap isSome e) ∙ ap isSome f));
   }
 
-  pub walkable : (marks : List ℕ) (left b : ℕ) → Lengths table marks → Walkable table marks left b
-  walkable marks left b l = record { many = l .long; up-to-left = λ x e h. l .each x e; all-if-good = λ s. l }
+  pub walkable-start : (marks : List ℕ) (left b : ℕ) → Lengths table marks → Walkable table marks left b
+  walkable-start marks left b l = record { many = l .long; up-to-left = λ x e h. l .each x e; all-if-good = λ s. l }
 
   -- at block b, with so many blocks left
   module _ (marks : List ℕ) (b left : ℕ) (k : Walkable table marks left b) where

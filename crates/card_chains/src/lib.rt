@@ -35,7 +35,7 @@ ghost use Rattle.card_chains.specs.Rows.{chainRows};
 ghost use Rattle.card_chains.specs.Counts.{isInUse, countTo};
 
 // The first entry that shares a block: the one remembered, or else this one. 208 is none.
-fn remember(first: usize, i: usize) -> usize
+fn keep_earlier(first: usize, i: usize) -> usize
     ensures { λ r. ⌜ r ≡ cond (ltb first 208) first i ⌝ }
 {
     if first < 208 {
@@ -64,7 +64,7 @@ pub fn walk_files(card: &[u8], used: &[u8; 208], count: usize, marks: &mut [u8; 
             return refused_at(27, Place::Entry(i));
         }
         if is_shared(found) {
-            first = remember(first, i);
+            first = keep_earlier(first, i);
         }
         j += 1;
     }
@@ -75,7 +75,7 @@ pub fn walk_files(card: &[u8], used: &[u8; 208], count: usize, marks: &mut [u8; 
 }
 
 // 1 for a block that the table has in use, else 0.
-fn one_if_used(card: &[u8], b: usize) -> u16
+fn one_if_in_use(card: &[u8], b: usize) -> u16
     requires { ⌜ (length (now card) ≡ cardLength) × (b < 200) ⌝ }
     ensures { λ r. ⌜ (r ≡ cond (isInUse (tableOf (now (card .entry))) b) 1 0) × (r ≤ 1) ⌝ }
 {
@@ -86,14 +86,14 @@ fn one_if_used(card: &[u8], b: usize) -> u16
 }
 
 // How many user blocks the table has in use. The count has as many bits as an entry, so that the loop is compiled to steps of eight.
-fn count_used(card: &[u8]) -> u16
+fn count_in_use(card: &[u8]) -> u16
     requires { ⌜ length (now card) ≡ cardLength ⌝ }
     ensures { λ r. ⌜ r ≡ countTo (isInUse (tableOf (now (card .entry)))) 200 ⌝ }
 {
     let mut count: u16 = 0;
     let mut b = 0;
     while b < 200 {
-        count += one_if_used(card, b);
+        count += one_if_in_use(card, b);
         b += 1;
     }
     count
@@ -129,5 +129,5 @@ pub fn count_orphans(card: &[u8], marks: &[u8; 200]) -> usize
     requires { ⌜ MarkedFiles (tableOf (now card)) (filesBefore (tableOf (now card)) (directoryOf (now card)) 208) (now marks) ⌝ }
     ensures { λ r. ⌜ r ≡ orphans (tableOf (now (card .entry))) (directoryOf (now (card .entry))) ⌝ }
 {
-    count_used(card) as usize - wide(count_marked(marks))
+    count_in_use(card) as usize - wide(count_marked(marks))
 }

@@ -5,7 +5,7 @@ ghost use Prim.Native.Nat.{_<_};
 ghost use Rattle.card_model.specs.Table.{fatEntry};
 
 // An entry as a wider number: of a parameter the prover knows that it fits, of an element of a lent array it does not.
-fn wide(e: u16) -> usize
+fn wide_entry(e: u16) -> usize
     ensures { λ r. ⌜ (r ≡ e) × (r < 65536) ⌝ }
 {
     e as usize
@@ -16,5 +16,5 @@ pub(crate) fn entry_in(table: &[u16; 256], b: usize) -> usize
     requires { ⌜ b < 256 ⌝ }
     ensures { λ r. ⌜ (r ≡ fatEntry (now (table .entry)) b) × (r < 65536) ⌝ }
 {
-    wide(table[b])
+    wide_entry(table[b])
 }

@@ -36,9 +36,9 @@ module _ (directory : List (List ℕ)) {f : Verdict} (e : f ≡ entryRow directo
   unfolding entryRow
   entries-right = below-accepts 26 Entry _ 208 refl (ap accepted (sym e) ∙ eq-eqb (f .number) 0 z)
 
-  pub good-chains : (table : List ℕ) {c : Verdict} → c ≡ chainRows table directory → c .number ≡ 0 → GoodChains table directory
+  pub chains-good : (table : List ℕ) {c : Verdict} → c ≡ chainRows table directory → c .number ≡ 0 → GoodChains table directory
   unfolding chainRow
-  good-chains table {c} q y =
+  chains-good table {c} q y =
       let a = unless-accepts (chainRow table directory) _ (ap accepted (sym q) ∙ eq-eqb (c .number) 0 y) in
       record { fields = entries-right; chains = below-accepts 27 Entry _ 208 refl (a .0) }
 

@@ -24,34 +24,34 @@ pub struct Opened {
     pub count: usize,
 }
 
-fn refused(verdict: Verdict) -> Opened
+fn not_opened(verdict: Verdict) -> Opened
     ensures { λ r. ⌜ (r .verdict ≡ verdict) × (r .count ≡ 0) ⌝ }
 {
     Opened { verdict, count: 0 }
 }
 
 // Refusals 21 to 30, of a card of the right length.
-fn open_card(card: &[u8], used: &mut [u8; 208], marks: &mut [u8; 200]) -> Opened
+fn open_right_length(card: &[u8], used: &mut [u8; 208], marks: &mut [u8; 200]) -> Opened
     requires { ⌜ (length (now card) ≡ cardLength) × (length (now used) ≡ 208) × (now marks ≡ noMarks) ⌝ }
     ensures { λ r. ⌜ r .verdict ≡ verdictOf (now (card .entry)) ⌝ }
     ensures { λ r. ⌜ (accepted (r .verdict) ≡ true → OpenCard (now (card .entry)) (now (used .exit)) (r .count) (now (marks .exit))) ⌝ }
 {
     let of_table = table_verdict(card);
     if of_table.number != 0 {
-        return refused(of_table);
+        return not_opened(of_table);
     }
     let count = list_used(card, used);
     let entries = entry_row(card, used, count);
     if entries.number != 0 {
-        return refused(entries);
+        return not_opened(entries);
     }
     let chains = walk_files(card, used, count, marks);
     if chains.number != 0 {
-        return refused(chains);
+        return not_opened(chains);
     }
     let names = name_row(card, used, count);
     if names.number != 0 {
-        return refused(names);
+        return not_opened(names);
     }
     Opened {
         verdict: game_row(card, used, count),
@@ -66,7 +66,7 @@ pub fn open(card: &[u8], used: &mut [u8; 208], marks: &mut [u8; 200]) -> Opened
     ensures { λ r. ⌜ (accepted (r .verdict) ≡ true → OpenCard (now (card .entry)) (now (used .exit)) (r .count) (now (marks .exit))) ⌝ }
 {
     if card.len() != LENGTH {
-        return refused(refused_at(20, Place::Whole));
+        return not_opened(refused_at(20, Place::Whole));
     }
-    open_card(card, used, marks)
+    open_right_length(card, used, marks)
 }

@@ -16,7 +16,7 @@ use Rattle.words.proofs.SearchLaws.{any-lowest}
 use Rattle.card_model.specs.Layout.{cardLength, entryPlace, directoryOf}
 use Rattle.card_model.specs.Entries.{nameOf, isUsed, wrongEntry, entryAt, isNamed, nameTaken}
 use Rattle.card_model.proofs.EntryLaws.{entry-is, entry-length}
-use Rattle.card_directory.specs.declared.search.FoundEntry.the-variants.{At, Nothing}
+use Rattle.card_directory.specs.declared.search.FoundEntry.the-variants.{Hit, Nothing}
 use Rattle.card_directory.specs.Found.{asFound}
 
 -- an entry's bytes as the part that a function takes out, whose place its fitting names
@@ -41,7 +41,7 @@ unused-unnamed directory name i u = rw u
 
 -- ---- what a search answered
 
-pub found-some : (o : Option ℕ) (k : ℕ) → asFound o ≡ At k → o ≡ some k
+pub found-some : (o : Option ℕ) (k : ℕ) → asFound o ≡ Hit k → o ≡ some k
 found-some none k e = let z : _≡_ {A = ℕ} 0 1 = cc in absurd (omega arith)
 found-some (some i) k e =
     let d : i ≡ k = cc in

@@ -82,9 +82,9 @@ module _ (directory : List (List ℕ)) where
         go j h (no d) =
             rw (getD-set-other used count j i 0 d, reached-set used count i j (omega arith)) (later (omega arith) (l .each j (omega (arith, d))))
 
-    pub put-next : i < 208 → (t : Bool) → isUsed (entryAt directory i) ≡ t → Listed directory (i + 1) (set used count i) (count + cond t 1 0)
-    put-next b true u = used-next b u
-    put-next b false u =
+    pub listed-next : i < 208 → (t : Bool) → isUsed (entryAt directory i) ≡ t → Listed directory (i + 1) (set used count i) (count + cond t 1 0)
+    listed-next b true u = used-next b u
+    listed-next b false u =
         let e : count + 0 ≡ count = omega arith in
         rw e (listed-behind i (unused-next u))
 

@@ -3,8 +3,8 @@
 use Prim.Native.Nat.{ℕ}
 use mathlib.Core.Option.{Option, none, some}
 use Rattle.card_directory.specs.declared.search.FoundEntry.{FoundEntry}
-use Rattle.card_directory.specs.declared.search.FoundEntry.the-variants.{At, Nothing}
+use Rattle.card_directory.specs.declared.search.FoundEntry.the-variants.{Hit, Nothing}
 
 abbrev pub asFound : Option ℕ → FoundEntry
 asFound none = Nothing
-asFound (some i) = At i
+asFound (some i) = Hit i

@@ -13,7 +13,7 @@ ghost use Rattle.card_directory.specs.Listed.{Listed};
 
 // An entry's number, or none.
 pub enum FoundEntry {
-    At(usize),
+    Hit(usize),
     Nothing,
 }
 
@@ -26,7 +26,7 @@ pub fn first_used(used: &[u8; 208], count: usize, start: usize) -> FoundEntry
     while j < count {
         let i = listed_at(used, j);
         if start <= i {
-            return FoundEntry::At(i);
+            return FoundEntry::Hit(i);
         }
         j += 1;
     }
@@ -43,7 +43,7 @@ pub fn find_named(card: &[u8], used: &[u8; 208], count: usize, name: &[u8]) -> F
     while j < count {
         let i = listed_at(used, j);
         if has_name(entry_at(card, i), name) {
-            return FoundEntry::At(i);
+            return FoundEntry::Hit(i);
         }
         j += 1;
     }

@@ -34,7 +34,7 @@ fn one_if(test: bool) -> usize
 
 // Entry i is put behind the list, and stays there where it is used: the count that is answered has it then. No step depends on
 // whether it is.
-fn put(card: &[u8], used: &mut [u8; 208], count: usize, i: usize) -> usize
+fn list_entry(card: &[u8], used: &mut [u8; 208], count: usize, i: usize) -> usize
     requires { ⌜ (length (now card) ≡ cardLength) × (i < 208) ⌝ }
     requires { ⌜ Listed (directoryOf (now card)) i (now used) count ⌝ }
     ensures { λ r. ⌜ Listed (directoryOf (now (card .entry))) (i + 1) (now (used .exit)) r ⌝ }
@@ -51,7 +51,7 @@ pub fn list_used(card: &[u8], used: &mut [u8; 208]) -> usize
     let mut count: usize = 0;
     let mut i = 0;
     while i < 208 {
-        count = put(card, used, count, i);
+        count = list_entry(card, used, count, i);
         i += 1;
     }
     count

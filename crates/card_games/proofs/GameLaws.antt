@@ -25,11 +25,11 @@ module _ (table : List ℕ) where
     pub there : isSome (chain table (left - 1) next) ≡ true
     pub rises : rising (orEmpty (chain table left b)) ≡ (eqb next (b + 1) && rising (orEmpty (chain table (left - 1) next)))
 
-  pub goes-on : (left b : ℕ) → 1 < left → isSome (chain table left b) ≡ true → GoesOn left b
+  pub chain-goes-on : (left b : ℕ) → 1 < left → isSome (chain table left b) ≡ true → GoesOn left b
   unfolding chain chainStep
-  goes-on zero b h s = absurd (omega arith)
-  goes-on (suc zero) b h s = absurd (omega arith)
-  goes-on (suc (suc k)) b h s = go (linkAt table b) refl s
+  chain-goes-on zero b h s = absurd (omega arith)
+  chain-goes-on (suc zero) b h s = absurd (omega arith)
+  chain-goes-on (suc (suc k)) b h s = go (linkAt table b) refl s
     where
       rest : (n : ℕ) (o : Option (List ℕ)) → chain table (suc k) n ≡ o → isSome (Option·map (λ (bs : List ℕ). b ∷ bs) o) ≡ true
           → (isSome o ≡ true) × (rising (orEmpty (Option·map (λ (bs : List ℕ). b ∷ bs) o)) ≡ (eqb n (b + 1) && rising (orEmpty o)))
@@ -65,9 +65,9 @@ pub record GameChain (table entry : List ℕ) : Type 0 where
   pub there : isSome (chain table (size entry) 0) ≡ true
   pub file : orEmpty (chain table (size entry) 0) ≡ fileOf table entry
 
-pub game-chain : (table entry : List ℕ) → isGame entry ≡ true → wrongEntry entry ≡ false → badChain table entry ≡ false → firstBlock entry ≡ 0 → GameChain table entry
+pub chain-of-game : (table entry : List ℕ) → isGame entry ≡ true → wrongEntry entry ≡ false → badChain table entry ≡ false → firstBlock entry ≡ 0 → GameChain table entry
 unfolding isGame isUsed
-game-chain table entry g w b z =
+chain-of-game table entry g w b z =
     let u : isUsed entry ≡ true = rw (eqb-true (kind entry) 0xCC g) in
     let e : chain table (size entry) 0 ≡ some (fileOf table entry) = rw (← z) (file-chain entry u table b) in
     record { most = right-entry entry u w .2; there = rw e; file = rw e }

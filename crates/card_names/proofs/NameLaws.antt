@@ -70,7 +70,7 @@ module _ (directory : List (List ℕ)) (used : List ℕ) where
     slots-many = length-replicate {A = ℕ} 2048 0;
     next-many = length-replicate {A = ℕ} 208 0;
     chains = record { in-directory = λ j h. absurd (omega arith); back = λ j h. absurd (omega arith) };
-    last = λ s h. rw (getD-replicate {A = ℕ} 2048 s 0 0 h) (last-of-none refl);
+    newest = λ s h. rw (getD-replicate {A = ℕ} 2048 s 0 0 h) (last-of-none refl);
   }
 
   module _ (next : List ℕ) where
@@ -84,7 +84,7 @@ module _ (directory : List (List ℕ)) (used : List ℕ) where
       slots-many = length-set slots s (j + 1) ∙ t .slots-many;
       next-many = length-set next j k ∙ t .next-many;
       chains = record { in-directory = λ x c. inside x c (ℕ-discrete x j); back = λ x c. backs x c (ℕ-discrete x j) };
-      last = λ x c. lasts x c (ℕ-discrete x s);
+      newest = λ x c. lasts x c (ℕ-discrete x s);
     }
       where
         inside : (x : ℕ) → x < j + 1 → Dec (x ≡ j) → getD used x 0 < 208
@@ -92,7 +92,7 @@ module _ (directory : List (List ℕ)) (used : List ℕ) where
         inside x c (no z) = t .chains .in-directory x (omega (arith, z))
 
         backs : (x : ℕ) → x < j + 1 → Dec (x ≡ j) → LastOf slot (slot x) x (getD (set next j k) x 0)
-        backs x c (yes z) = rw (z, getD-set-same next j k 0 (omega (arith, t .next-many)), q, ← e) (t .last s h)
+        backs x c (yes z) = rw (z, getD-set-same next j k 0 (omega (arith, t .next-many)), q, ← e) (t .newest s h)
         backs x c (no z) = rw (getD-set-other next j x k 0 z) (t .chains .back x (omega (arith, z)))
 
         lasts : (x : ℕ) → x < 2048 → Dec (x ≡ s) → LastOf slot x (j + 1) (getD (set slots s (j + 1)) x 0)
@@ -102,7 +102,7 @@ module _ (directory : List (List ℕ)) (used : List ℕ) where
           others = λ y p r. absurd (omega arith);
         })
         lasts x c (no z) =
-            let o = t .last x c in
+            let o = t .newest x c in
             rw (getD-set-other slots s x (j + 1) 0 z) (record { within = omega (arith, o .within); own = o .own; others = other o })
           where
             other : LastOf slot x j (getD slots x 0) → (y : ℕ) → getD slots x 0 ≤ y → y < j + 1 → slot y ≡ x → ⊥

@@ -47,4 +47,4 @@ pub record Slots (directory : List (List ℕ)) (used slots next : List ℕ) (n :
   pub slots-many : length slots ≡ 2048
   pub next-many : length next ≡ 208
   pub chains : Chained directory used next n
-  pub last : (s : ℕ) → s < 2048 → LastOf (slotAt directory used) s n (getD slots s 0)
+  pub newest : (s : ℕ) → s < 2048 → LastOf (slotAt directory used) s n (getD slots s 0)

@@ -94,12 +94,12 @@ pub fn name_row(card: &[u8], used: &[u8; 208], count: usize) -> Verdict
     while j < count {
         let i = listed_at(used, j);
         let slot = entry_slot(entry_at(card, i));
-        let last = slots[slot];
-        if last != 0 {
-            if find_same(card, used, &next, wide(last), i) != 0 {
+        let earlier = slots[slot];
+        if earlier != 0 {
+            if find_same(card, used, &next, wide(earlier), i) != 0 {
                 return refused_at(29, Place::Entry(i));
             }
-            next[j] = last;
+            next[j] = earlier;
         }
         slots[slot] = (j + 1) as u8;
         j += 1;

@@ -14,7 +14,7 @@ use lib.Seq.{drop-cons}
 use Rattle.words.specs.BigEndian.{Big}
 use Rattle.words.specs.LittleEndian.{Little}
 use Rattle.words.proofs.LittleLaws.{little-lt as word-below}
-use Rattle.checksum.specs.Crc.{shift, shifts, takes, crcFrom, checksumOf}
+use Rattle.checksum.specs.Crc.{shift, shifts, takeByte, crcFrom, checksumOf}
 use Rattle.checksum.specs.Polynomial.{rem, remLittle}
 use Rattle.checksum.proofs.XorLaws.{xor-assoc, xor-ones}
 use Rattle.checksum.proofs.XorSolver.{var, both, solve}
@@ -22,7 +22,7 @@ use Rattle.checksum.proofs.ShiftLaws.{shifts-lt, shifts-xor, shifts-add
 use Rattle.checksum.proofs.RemainderLaws.{rem-lt, rem-xor, rem-cat, rem-shl, rem-small}
 use Rattle.checksum.proofs.LittleLaws.{little-lt, little-more}
 
-pub crc-next : (n i : ℕ) (bytes : List ℕ) → i < length bytes → crcFrom n (drop i bytes) ≡ crcFrom (takes n (getD bytes i 0)) (drop (i + 1) bytes)
+pub crc-next : (n i : ℕ) (bytes : List ℕ) → i < length bytes → crcFrom n (drop i bytes) ≡ crcFrom (takeByte n (getD bytes i 0)) (drop (i + 1) bytes)
 unfolding crcFrom
 crc-next n i bytes h = rw (add-one, drop-cons bytes i 0)
 
@@ -31,9 +31,9 @@ unfolding crcFrom
 crc-end n i bytes h = rw drop-of-length-le
 
 -- a byte taken into 16 shifts of r is put behind r
-takes-behind : (r b : ℕ) → r < 65536 → b < 256 → takes (shifts 16 r) b ≡ shifts 16 (bitXor (shifts 8 r) b)
-unfolding takes
-takes-behind r b hr h =
+take-behind : (r b : ℕ) → r < 65536 → b < 256 → takeByte (shifts 16 r) b ≡ shifts 16 (bitXor (shifts 8 r) b)
+unfolding takeByte
+take-behind r b hr h =
     let b16 : b < 65536 = omega arith in
     let up : b * 256 ≡ shifts 8 b =
     sym (rem-small 16 (b * 256) (lit≤ tt) (omega arith)) ∙ rem-shl 8 8 b ∙ ap (shifts 8) (rem-small 8 b (lit≤ tt) h) in
@@ -70,7 +70,7 @@ crc-word (suc n) {s} {at} {w} r h known long =
     crc-word n r h (record { says = known .says .0 }) (omega arith)
     ∙ crc-next (shifts 16 x) (at + n) s (omega arith)
     ∙ ap₂ (λ (v i : ℕ). crcFrom v (drop i s))
-    (ap (takes (shifts 16 x)) (known .says .1) ∙ takes-behind x (w % 256) hx (mod-lt w (lit< tt)) ∙ ap (shifts 16) (behind-last n r w h)) next
+    (ap (takeByte (shifts 16 x)) (known .says .1) ∙ take-behind x (w % 256) hx (mod-lt w (lit< tt)) ∙ ap (shifts 16) (behind-last n r w h)) next
 
 -- a byte b behind r, and the n bytes of w behind that
 behind-first : (n r b w : ℕ) → r < 65536 → b < 256
@@ -94,7 +94,7 @@ crc-little (suc n) {s} {at} {w} r h known long =
     let hx : x < 65536 = xor-lt 16 (shifts 8 r) b (shifts-lt 8 r h) (omega arith) in
     let next : at + 1 + n ≡ at + suc n = omega arith in
     crc-next (shifts 16 r) at s (omega arith)
-    ∙ ap (λ (v : ℕ). crcFrom v (drop (at + 1) s)) (ap (takes (shifts 16 r)) (known .says .0) ∙ takes-behind r b h hb)
+    ∙ ap (λ (v : ℕ). crcFrom v (drop (at + 1) s)) (ap (takeByte (shifts 16 r)) (known .says .0) ∙ take-behind r b h hb)
     ∙ crc-little n x hx (record { says = known .says .1 }) (omega arith)
     ∙ ap₂ (λ (v i : ℕ). crcFrom (shifts 16 v) (drop i s)) (behind-first n r b (w / 256) h hb) next
 

@@ -76,10 +76,10 @@ four-more a b c d =
     (sum-shifts 64 (up 192 a) (up 128 b) (up 64 c) (up-lt 192 a) (up-lt 128 b) (up-lt 64 c)
     ∙ ap₂ bitXor (ap₂ bitXor (up-more 192 a) (up-more 128 b)) (up-more 64 c))
 
-pub four-step : (a b c d e : ℕ) → a < 18446744073709551616
+pub four-take : (a b c d e : ℕ) → a < 18446744073709551616
     → remFour (bitXor b a) (bitXor c (a * 281474976710656 % 18446744073709551616)) (bitXor d (a / 65536)) (bitXor e a)
     ≡ bitXor (shifts 64 (remFour a b c d)) (remLittle 8 e)
-four-step a b c d e h =
+four-take a b c d e h =
     let hi = a * 281474976710656 % 18446744073709551616 in
     let lo = a / 65536 in
     let ra = remLittle 8 a in
@@ -139,10 +139,10 @@ module _ (a : ℕ) where
       ∙ sym (three-sum a b c)
 
 -- two such folds make two words, v and w, of the four; these are swapped, to x and y, and the first of them is folded, to f
-pub four-last : (a b c d t u v w x y f : ℕ) → remTwo t u ≡ remThree a b c → remTwo v w ≡ remThree t u d
+pub four-remainder : (a b c d t u v w x y f : ℕ) → remTwo t u ≡ remThree a b c → remTwo v w ≡ remThree t u d
     → rem 64 x ≡ remLittle 8 v → rem 64 f ≡ shifts 64 (rem 64 x) → rem 64 y ≡ remLittle 8 w → rem 64 (bitXor f y) ≡ remFour a b c d
 unfolding remTwo remThree remFour
-four-last a b c d t u v w x y f once twice ex ef ey =
+four-remainder a b c d t u v w x y f once twice ex ef ey =
     rem-xor 64 f y ∙ ap₂ bitXor (ef ∙ ap (shifts 64) ex) ey ∙ twice ∙ ap (λ (z : ℕ). bitXor (shifts 64 z) (remLittle 8 d)) once
 
 pub four-first : (s : List ℕ) (a b c d : ℕ) → Little 8 s 0 a → Little 8 s 8 b → Little 8 s 16 c → Little 8 s 24 d → 32 ≤ length s

@@ -18,12 +18,12 @@ shifts zero n = n
 shifts (suc k) n = shift (shifts k n)
 
 -- "takes each byte into the top half, shifts left eight times"
-unfoldable pub takes : ℕ → ℕ → ℕ
-takes n byte = shifts 8 (bitXor n (byte * 256))
+unfoldable pub takeByte : ℕ → ℕ → ℕ
+takeByte n byte = shifts 8 (bitXor n (byte * 256))
 
 unfoldable pub crcFrom : ℕ → List ℕ → ℕ
 crcFrom n [] = n
-crcFrom n (byte ∷ bytes) = crcFrom (takes n byte) bytes
+crcFrom n (byte ∷ bytes) = crcFrom (takeByte n byte) bytes
 
 -- "starts at FFFF .. and is inverted at the end"
 unfoldable pub checksumOf : List ℕ → ℕ

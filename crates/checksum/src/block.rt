@@ -26,7 +26,7 @@ struct Two {
 }
 
 // Four words with a fifth behind them, folded into four.
-fn step(f: Four, e: u64) -> Four
+fn take_word(f: Four, e: u64) -> Four
     ensures { λ r. ⌜ remFour (r .a) (r .b) (r .c) (r .d) ≡ bitXor (shifts 64 (remFour (f .a) (f .b) (f .c) (f .d))) (remLittle 8 e) ⌝ }
 {
     Four {
@@ -49,7 +49,7 @@ fn fold128(a: u64, b: u64, c: u64) -> Two
 }
 
 // A word with its bytes in the other order. The compiler makes one instruction of this expression.
-fn swap(x: u64) -> u64
+fn swap_bytes(x: u64) -> u64
     ensures { λ r. ⌜ rem 64 r ≡ remLittle 8 x ⌝ }
 {
     (x % 256 << 56)
@@ -63,12 +63,12 @@ fn swap(x: u64) -> u64
 }
 
 // The remainder of four words.
-fn last(f: Four) -> u16
+fn remainder_of_four(f: Four) -> u16
     ensures { λ r. ⌜ r ≡ remFour (f .a) (f .b) (f .c) (f .d) ⌝ }
 {
     let t = fold128(f.a, f.b, f.c);
     let u = fold128(t.a, t.b, f.d);
-    remainder(fold64(swap(u.a)) ^ swap(u.b))
+    remainder(fold64(swap_bytes(u.a)) ^ swap_bytes(u.b))
 }
 
 // The checksum of 62 bytes: seven words, and six bytes that 16 shifts stand behind. 18825 in the first of them does what FFFF at the
@@ -83,8 +83,8 @@ pub fn of_block(bytes: &[u8]) -> u16
         c: little8(bytes, 16),
         d: little8(bytes, 24),
     };
-    let f4 = step(f3, little8(bytes, 32));
-    let f5 = step(f4, little8(bytes, 40));
-    let f6 = step(f5, little8(bytes, 48));
-    last(step(f6, little6_of8(bytes, 54)))
+    let f4 = take_word(f3, little8(bytes, 32));
+    let f5 = take_word(f4, little8(bytes, 40));
+    let f6 = take_word(f5, little8(bytes, 48));
+    remainder_of_four(take_word(f6, little6_of8(bytes, 54)))
 }

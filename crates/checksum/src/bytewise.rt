@@ -12,8 +12,8 @@ fn shift(n: u16) -> u16
 
 // The running value n with the byte b taken into its top half. This shape of loop is one that the compiler knows as a
 // CRC and turns into a table of its own; written out by hand it is several times slower.
-fn takes(n: u16, b: u8) -> u16
-    ensures { λ r. ⌜ r ≡ sum.takes n b ⌝ }
+fn take_byte(n: u16, b: u8) -> u16
+    ensures { λ r. ⌜ r ≡ sum.takeByte n b ⌝ }
 {
     let mut v = n ^ ((b as u16) << 8);
     let mut k: usize = 0;
@@ -25,13 +25,13 @@ fn takes(n: u16, b: u8) -> u16
 }
 
 // The running value `start` with the bytes from a place on taken into it.
-pub fn rest(bytes: &[u8], from: usize, start: u16) -> u16
+pub fn take_bytes_from(bytes: &[u8], from: usize, start: u16) -> u16
     ensures { λ r. ⌜ r ≡ sum.crcFrom start (drop from (now (bytes .entry))) ⌝ }
 {
     let mut n = start;
     let mut i = from;
     while i < bytes.len() {
-        n = takes(n, bytes[i]);
+        n = take_byte(n, bytes[i]);
         i += 1;
     }
     n

@@ -5,7 +5,7 @@ mod bytewise;
 mod folding;
 
 use crate::block::of_block;
-use crate::bytewise::rest;
+use crate::bytewise::take_bytes_from;
 use crate::folding::fold16;
 use crate::folding::fold64;
 use crate::folding::remainder;
@@ -23,7 +23,7 @@ fn of_words(bytes: &[u8]) -> u16
         a = fold64(a) ^ big8(bytes, i);
         i += 8;
     }
-    rest(bytes, i, fold16(remainder(a)))
+    take_bytes_from(bytes, i, fold16(remainder(a)))
 }
 
 // The checksum of these bytes; that of a run of 62, which a block of an image has, by the quicker way. For a block of an image,

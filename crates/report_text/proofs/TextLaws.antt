@@ -17,7 +17,7 @@ use Rattle.flash.specs.declared.Counts.{Counts}
 use Rattle.flash.specs.declared.Summary.{Summary}
 use Rattle.flash.specs.declared.Summary.the-variants.{Counted, Refused}
 use Rattle.report_text.specs.Text.{line, refusedWord, endLine, partitionFor, headLines, blockLines, textFor, reportText}
-use Rattle.report_text.specs.Written.{written, Fits, Wrote}
+use Rattle.report_text.specs.Written.{withText, Fits, Wrote}
 use Rattle.report_text.proofs.WrittenLaws.{Left, left-start, left-next, left-last}
 use Rattle.report_text.proofs.RoomLaws.{line-short, text-short}
 
@@ -71,7 +71,7 @@ partition-low size = go (eqb size 16384) (eqb size 32768)
 
 -- what was written from the buffer's start is the text, and the rest is as it was
 from-start : {out out′ : List ℕ} {end : ℕ} (text : List ℕ) → Wrote out 0 text out′ end → (end ≡ length text) × (out′ ≡ text ++ drop end out)
-unfolding written
+unfolding withText
 from-start {out} {out′} {end} text w = (omega (arith, w .ends), w .holds ∙ ap (λ (k : ℕ). text ++ drop k out) (sym (w .ends)))
 
 named-text : (image : List ℕ) (partition : ℕ) → partition ≡ partitionFor (length image) → textFor image partition ≡ reportText image

@@ -8,22 +8,22 @@ use lib.ListN.{length, take, drop, set, length-append, length-drop, take-append-
 use lib.Seq.{length-take-le, take-at, drop-append-add, drop-drop, set-split}
 use borrow.Rule.Slice.PartMut.{midOf, putMid, post-is, mid-len}
 use Rattle.words.proofs.PartsLaws.{copied-over}
-use Rattle.report_text.specs.Written.{written, Fits, Wrote}
+use Rattle.report_text.specs.Written.{withText, Fits, Wrote}
 
 module _ (out : List ℕ) (at : ℕ) where
-  pub length-written : (text : List ℕ) → Fits out at text → length (written out at text) ≡ length out
-  unfolding written
+  pub length-written : (text : List ℕ) → Fits out at text → length (withText out at text) ≡ length out
+  unfolding withText
   length-written text h =
       let l : at ≤ length out = omega (arith, h .room) in
       length-append (take at out) (text ++ drop (at + length text) out)
       ∙ rw (length-append text (drop (at + length text) out), length-take-le at out l, length-drop (at + length text) out) (omega (arith, h .room))
 
-  pub written-nil : written out at [] ≡ out
-  unfolding written
+  pub written-nil : withText out at [] ≡ out
+  unfolding withText
   written-nil = let e : at + 0 ≡ at = omega arith in ap (λ (k : ℕ). take at out ++ drop k out) e ∙ take-append-drop at out
 
-  pub written-then : (s t : List ℕ) → Fits out at s → written (written out at s) (at + length s) t ≡ written out at (s ++ t)
-  unfolding written
+  pub written-then : (s t : List ℕ) → Fits out at s → withText (withText out at s) (at + length s) t ≡ withText out at (s ++ t)
+  unfolding withText
   written-then s t h =
       let a : at ≤ length out = omega (arith, h .room) in
       let rest = drop (at + length s) out in
@@ -46,7 +46,7 @@ pub record Left (first : List ℕ) (at : ℕ) (whole out : List ℕ) (end : ℕ)
   pub fits : Fits out end rest
   pub same-length : length out ≡ length first
   pub same-end : end + length rest ≡ at + length whole
-  pub same-text : written out end rest ≡ written first at whole
+  pub same-text : withText out end rest ≡ withText first at whole
 
 pub left-start : {out : List ℕ} {at : ℕ} {whole : List ℕ} → Fits out at whole → Left out at whole out at whole
 left-start h = record { fits = h; same-length = refl; same-end = refl; same-text = refl }
@@ -76,7 +76,7 @@ module _ {first : List ℕ} {at : ℕ} {whole out : List ℕ} {end : ℕ} where
 -- ---- what code writes
 
 pub byte-written : (out : List ℕ) (at byte : ℕ) → Fits out at (byte ∷ []) → Wrote out at (byte ∷ []) (set out at byte) (at + 1)
-unfolding written
+unfolding withText
 byte-written out at byte h = record {
   ends = refl;
   holds = set-split out at byte (omega (arith, h .room)) ∙ ap (λ (k : ℕ). take at out ++ byte ∷ drop k out) (sym (add-one at));
@@ -85,7 +85,7 @@ byte-written out at byte h = record {
 pub part-written : (out text part : List ℕ) (at end : ℕ) → end ≡ at + length text → Fits out at text
     → part ≡ take (length text) text ++ drop (length text) (midOf at (end - at) out)
     → Wrote out at text (putMid at (end - at) out part) end
-unfolding written
+unfolding withText
 part-written out text part at end e h p =
     let g : end ≤ length out = omega (arith, e, h .room) in
     let l : length text ≡ length (midOf at (end - at) out) = omega (arith, e) ∙ sym (mid-len at end out g) in

@@ -327,7 +327,7 @@ lengthSamples =
     ∷ sampleOf (verdictNumbers (readVerdict [] [] 0 (7 ∷ [])) ++ readBuffer [] [] 0 (7 ∷ [])) (20 ∷ 0 ∷ 0 ∷ 7 ∷ [])
     ∷ []
 
-unfoldable pub cardSamples : List Sample
-cardSamples =
+unfoldable pub allCardSamples : List Sample
+allCardSamples =
     concat (layoutSamples ∷ rootSamples ∷ tableSamples ∷ entrySamples ∷ chainSamples ∷ directorySamples ∷ orphanSamples
     ∷ listSamples ∷ readSamples ∷ lengthSamples ∷ [])

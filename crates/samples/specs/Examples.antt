@@ -7,7 +7,7 @@ use mathlib.Core.List.{List, [], _∷_, _++_, map}
 use lib.ListN.{replicate, set}
 use Rattle.words.specs.Lists.{concat, toList}
 use Rattle.words.specs.Words.{word, wordBytes}
-use Rattle.checksum.specs.Crc.{shift, shifts, takes, crcFrom, checksumOf}
+use Rattle.checksum.specs.Crc.{shift, shifts, takeByte, crcFrom, checksumOf}
 use Rattle.flash_model.specs.Measures.{blocks, bitmapBlocks, firstBitmap, capacity, userBlocks, topNumber, legalNumber, logicalNumbers}
 use Rattle.flash_model.specs.Bitmap.{bitByte, bitPlace, bitWeight, bitOf, allocatedIn, lowestFreeIn, cleared, firstCleared}
 use Rattle.flash_model.specs.UserBlock.{number, payload, rightChecksum, newBlock}
@@ -40,8 +40,8 @@ pub record Example : Type 0 where
 abbrev pub exampleOf : List ℕ → List ℕ → Example
 exampleOf d w = record { defined = d; worked = w }
 
-unfoldable pub examples : List Example
-examples =
+unfoldable pub allExamples : List Example
+allExamples =
     -- the highest copy with a right checksum; nothing above the top number
     exampleOf (concat (toList (contents worn 0))) (replicate 60 2)
     ∷ exampleOf (concat (toList (contents worn 5))) (replicate 60 9)
@@ -56,6 +56,6 @@ examples =
     ∷ exampleOf (saved spoiled 2 (replicate 60 5)) (imageOf (blockOf 1 1 ∷ blockOf 2 5 ∷ blank ∷ blank ∷ blank ∷ blank ∷ []) 0x3F)
     ∷ []
 
-pub examples-hold : map (λ (e : Example). e .defined) examples ≡ map (λ (e : Example). e .worked) examples
-unfolding examples blockOf blank imageOf worn spoiled word wordBytes shift shifts takes crcFrom checksumOf blocks bitmapBlocks firstBitmap capacity userBlocks topNumber legalNumber logicalNumbers bitByte bitPlace bitWeight bitOf allocatedIn lowestFreeIn cleared firstCleared number payload rightChecksum newBlock blockAt bitmapOf allocated lowestFree holds holder contents live used lowestLive beforeBitmap bitCleared bitsCleared appendBlock withBlock appended isHolder holders otherHolders rewritten compacted saved erased
+pub examples-hold : map (λ (e : Example). e .defined) allExamples ≡ map (λ (e : Example). e .worked) allExamples
+unfolding allExamples blockOf blank imageOf worn spoiled word wordBytes shift shifts takeByte crcFrom checksumOf blocks bitmapBlocks firstBitmap capacity userBlocks topNumber legalNumber logicalNumbers bitByte bitPlace bitWeight bitOf allocatedIn lowestFreeIn cleared firstCleared number payload rightChecksum newBlock blockAt bitmapOf allocated lowestFree holds holder contents live used lowestLive beforeBitmap bitCleared bitsCleared appendBlock withBlock appended isHolder holders otherHolders rewritten compacted saved erased
 examples-hold = refl

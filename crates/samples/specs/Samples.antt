@@ -7,7 +7,7 @@ use mathlib.Core.List.{List, [], _∷_, _++_, map}
 use lib.ListN.{replicate, set}
 use Rattle.words.specs.Lists.{toList}
 use Rattle.words.specs.Words.{word, wordBytes}
-use Rattle.checksum.specs.Crc.{shift, shifts, takes, crcFrom, checksumOf}
+use Rattle.checksum.specs.Crc.{shift, shifts, takeByte, crcFrom, checksumOf}
 use Rattle.flash_model.specs.Measures.{sizes, legalSize, blocks, bitmapBlocks, firstBitmap, capacity, topNumber}
 use Rattle.flash_model.specs.Bitmap.{bitByte, bitPlace, bitWeight, bitOf, allocatedIn, outOfSequence, lowestFreeIn, cleared, firstCleared}
 use Rattle.flash_model.specs.UserBlock.{number, payload, rightChecksum, newBlock}
@@ -27,7 +27,7 @@ use Rattle.card_model.specs.Examples.{rootBlock, systemTable, unusedEntry, entr
 use Rattle.samples.specs.Sample.{Sample, sampleOf, bit}
 use Rattle.samples.specs.CardSamples.{emptyTable, linked, twoBlocks, threeBlocks, orphanTable, layoutSamples}
 use Rattle.samples.specs.CardSamples.{rootSamples, tableSamples, entrySamples, chainSamples, directorySamples}
-use Rattle.samples.specs.CardSamples.{orphanSamples, listSamples, readSamples, lengthSamples, cardSamples}
+use Rattle.samples.specs.CardSamples.{orphanSamples, listSamples, readSamples, lengthSamples, allCardSamples}
 
 -- A row of the table of measures: a legal length, its blocks, bitmap blocks, M, capacity and top logical number.
 abbrev pub measures : ℕ → List ℕ
@@ -72,11 +72,11 @@ flashSamples =
     ∷ sampleOf (map (λ i. bit (rightChecksum (set block292 i 0))) (0 ∷ 1 ∷ 2 ∷ 61 ∷ 62 ∷ 63 ∷ [])) (0 ∷ 0 ∷ 0 ∷ 0 ∷ 0 ∷ 0 ∷ [])
     ∷ []
 
-unfoldable pub samples : List Sample
-samples = flashSamples ++ cardSamples
+unfoldable pub allSamples : List Sample
+allSamples = flashSamples ++ allCardSamples
 
-pub samples-hold : map (λ (s : Sample). s .defined) samples ≡ map (λ (s : Sample). s .bench) samples
-unfolding samples flashSamples unwritten page292 block292 checksumOf crcFrom takes shifts shift sizes legalSize blocks
+pub samples-hold : map (λ (s : Sample). s .defined) allSamples ≡ map (λ (s : Sample). s .bench) allSamples
+unfolding allSamples flashSamples unwritten page292 block292 checksumOf crcFrom takeByte shifts shift sizes legalSize blocks
     bitmapBlocks firstBitmap capacity topNumber bitByte bitPlace bitWeight bitOf allocatedIn outOfSequence lowestFreeIn
     cleared firstCleared number payload rightChecksum newBlock word wordBytes magic headerNumber version bitmapOf
     flash.lengthRow headerRows sequenceRow refusal
@@ -87,5 +87,5 @@ unfolding samples flashSamples unwritten page292 block292 checksumOf crcFrom tak
     breaksGameRule gameRow isOrphan orphans lengthRow tableRows directoryRows verdictOf checkOf listedEntry firstUsed listOf
     entryNamed readRows readVerdict readBuffer rootBlock systemTable unusedEntry entryBytes emptyTable linked twoBlocks threeBlocks
     orphanTable layoutSamples rootSamples tableSamples entrySamples chainSamples directorySamples orphanSamples listSamples
-    readSamples lengthSamples cardSamples
+    readSamples lengthSamples allCardSamples
 samples-hold = refl

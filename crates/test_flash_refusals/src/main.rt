@@ -10,6 +10,6 @@ fn main() {
     images::headers(&mut image);
     images::bitmap(&mut image);
     images::top_number(&mut image);
-    reads::reads(&mut image);
+    reads::page_reads(&mut image);
     reads::short_reads(&mut image);
 }

@@ -1,5 +1,5 @@
 // Reads that are refused, each beside the nearest that is not.
-use test_printing::read;
+use test_printing::print_read;
 use test_scenarios::pages::format;
 use test_scenarios::pages::save_round;
 
@@ -7,12 +7,12 @@ use test_scenarios::pages::save_round;
 fn read_page(label: &[u8], image: &[u8], partition: u8, number: usize) {
     let before = [0u8; 60];
     let mut page = before;
-    read(label, image, partition, number, &mut page);
-    test_printing::unchanged(b"page", &before, &page);
+    print_read(label, image, partition, number, &mut page);
+    test_printing::print_unchanged(b"page", &before, &page);
 }
 
 // Number 24 is live.
-pub(crate) fn reads(image: &mut [u8; 32768]) {
+pub(crate) fn page_reads(image: &mut [u8; 32768]) {
     format(image, 3, 1);
     save_round(image, 3, 24, 1);
     read_page(b"read number 25", image, 3, 25);
@@ -25,7 +25,7 @@ pub(crate) fn short_reads(image: &mut [u8; 32768]) {
     format(image, 3, 1);
     save_round(image, 3, 24, 1);
     let mut page = [0u8; 59];
-    read(b"read number 24 into 59 bytes", image, 3, 24, &mut page);
-    read(b"read number 25 into 59 bytes", image, 3, 25, &mut page);
-    read(b"read number 510 into 59 bytes", image, 3, 510, &mut page);
+    print_read(b"read number 24 into 59 bytes", image, 3, 24, &mut page);
+    print_read(b"read number 25 into 59 bytes", image, 3, 25, &mut page);
+    print_read(b"read number 510 into 59 bytes", image, 3, 510, &mut page);
 }

@@ -1,7 +1,7 @@
 // One partition from empty to full, saved over and erased. Each stage is a line.
 use flash::LiveNumber;
-use test_printing::number;
-use test_printing::text;
+use test_printing::print_number;
+use test_printing::print_text;
 use test_scenarios::pages::format;
 use test_scenarios::pages::save_numbers;
 
@@ -9,7 +9,7 @@ use test_scenarios::pages::save_numbers;
 const AGAIN: usize = 100;
 
 // How many live numbers a walk by next_live meets. It also stops at a number that is no longer below `end`.
-fn walked(image: &[u8], partition: u8, end: usize) -> usize {
+fn count_by_walk(image: &[u8], partition: u8, end: usize) -> usize {
     let mut live: usize = 0;
     let mut from: usize = 0;
     while live < end {
@@ -28,20 +28,20 @@ fn walked(image: &[u8], partition: u8, end: usize) -> usize {
 // A line: length, stage, the report's counts, the walk's count, and whether the numbers read back: those below AGAIN as the
 // pages of the round, the rest to below `end` as the pages of round 1.
 fn print_stage(stage: &[u8], image: &[u8], partition: u8, end: usize, round: usize) {
-    text(b"length ");
-    number(image.len());
-    text(b" ");
-    text(stage);
-    text(b":");
-    test_printing::report_values(image, partition);
-    text(b" walked ");
-    number(walked(image, partition, 2000));
-    text(b" first 100");
-    test_printing::whole(image, partition, 0, AGAIN, round);
-    text(b" rest");
-    test_printing::whole(image, partition, AGAIN, end, 1);
-    test_printing::image_sum(image);
-    text(b"\n");
+    print_text(b"length ");
+    print_number(image.len());
+    print_text(b" ");
+    print_text(stage);
+    print_text(b":");
+    test_printing::print_report_values(image, partition);
+    print_text(b" walked ");
+    print_number(count_by_walk(image, partition, 2000));
+    print_text(b" first 100");
+    test_printing::print_read_back(image, partition, 0, AGAIN, round);
+    print_text(b" rest");
+    test_printing::print_read_back(image, partition, AGAIN, end, 1);
+    test_printing::print_image_sum(image);
+    print_text(b"\n");
 }
 
 // Some numbers saved twice, by appends: the erase drops their stale copies.
@@ -50,7 +50,7 @@ fn run_sparse(image: &mut [u8], partition: u8) {
     save_numbers(image, partition, AGAIN, 1);
     save_numbers(image, partition, AGAIN, 2);
     print_stage(b"saved twice", &image[..], partition, AGAIN, 2);
-    test_printing::answer(b"erase", flash::erase(image, partition));
+    test_printing::print_answer(b"erase", flash::erase(image, partition));
     print_stage(b"saved twice, erased", &image[..], partition, AGAIN, 2);
 }
 
@@ -61,7 +61,7 @@ fn run_full(image: &mut [u8], partition: u8, capacity: usize) {
     print_stage(b"filled", &image[..], partition, capacity, 1);
     save_numbers(image, partition, AGAIN, 2);
     print_stage(b"saved over", &image[..], partition, capacity, 2);
-    test_printing::answer(b"erase", flash::erase(image, partition));
+    test_printing::print_answer(b"erase", flash::erase(image, partition));
     print_stage(b"saved over, erased", &image[..], partition, capacity, 2);
 }
 

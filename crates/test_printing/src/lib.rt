@@ -5,90 +5,90 @@ use libc::STDOUT_FILENO;
 use test_scenarios::pages::first_different;
 use test_scenarios::pages::save_round;
 
-pub fn text(bytes: &[u8]) {
+pub fn print_text(bytes: &[u8]) {
     io::write_all(STDOUT_FILENO, bytes);
 }
 
-pub fn number(n: usize) {
+pub fn print_number(n: usize) {
     io::print_decimal(STDOUT_FILENO, n as u64);
 }
 
 // A line: the label and what a call answered.
-pub fn answer(label: &[u8], answered: u8) {
-    text(label);
-    text(b": ");
-    number(answered as usize);
-    text(b"\n");
+pub fn print_answer(label: &[u8], answered: u8) {
+    print_text(label);
+    print_text(b": ");
+    print_number(answered as usize);
+    print_text(b"\n");
 }
 
 // A line: the label and a count.
-pub fn count(label: &[u8], n: usize) {
-    text(label);
-    text(b": ");
-    number(n);
-    text(b"\n");
+pub fn print_count(label: &[u8], n: usize) {
+    print_text(label);
+    print_text(b": ");
+    print_number(n);
+    print_text(b"\n");
 }
 
 // A line: the label, and whether two runs of bytes are the same.
-pub fn unchanged(label: &[u8], before: &[u8], after: &[u8]) {
-    text(label);
+pub fn print_unchanged(label: &[u8], before: &[u8], after: &[u8]) {
+    print_text(label);
     if words::same(before, after) {
-        text(b": unchanged\n");
+        print_text(b": unchanged\n");
     } else {
-        text(b": changed\n");
+        print_text(b": changed\n");
     }
 }
 
 // A line: the label and what check answers.
-pub fn checked(label: &[u8], image: &[u8], partition: u8) {
-    answer(label, flash::check(image, partition));
+pub fn print_check(label: &[u8], image: &[u8], partition: u8) {
+    print_answer(label, flash::check(image, partition));
 }
 
 // A line: the label and what read answers.
-pub fn read(label: &[u8], image: &[u8], partition: u8, n: usize, page: &mut [u8]) {
-    answer(label, flash::read(image, partition, n, page));
+pub fn print_read(label: &[u8], image: &[u8], partition: u8, n: usize, page: &mut [u8]) {
+    print_answer(label, flash::read(image, partition, n, page));
 }
 
 // A line: the label and what the save of a round answers.
-pub fn saved(label: &[u8], image: &mut [u8], partition: u8, n: usize, round: usize) {
-    answer(label, save_round(image, partition, n, round));
+pub fn print_save(label: &[u8], image: &mut [u8], partition: u8, n: usize, round: usize) {
+    print_answer(label, save_round(image, partition, n, round));
 }
 
 // A line: the lowest live number from `from` on.
-pub fn next_live(image: &[u8], partition: u8, from: usize) {
-    text(b"next live of partition ");
-    number(partition as usize);
-    text(b" from ");
-    number(from);
+pub fn print_next_live(image: &[u8], partition: u8, from: usize) {
+    print_text(b"next live of partition ");
+    print_number(partition as usize);
+    print_text(b" from ");
+    print_number(from);
     match flash::next_live(image, partition, from) {
         LiveNumber::Refused(refused) => {
-            text(b": refused ");
-            number(refused as usize);
+            print_text(b": refused ");
+            print_number(refused as usize);
         }
         LiveNumber::Hit(n) => {
-            text(b": number ");
-            number(n);
+            print_text(b": number ");
+            print_number(n);
         }
     }
-    text(b"\n");
+    print_text(b"\n");
 }
 
 // The counts of a report, or its refusal.
-pub fn report_values(image: &[u8], partition: u8) {
+pub fn print_report_values(image: &[u8], partition: u8) {
     match flash::report(image, partition) {
         Summary::Refused(refused) => {
-            text(b" refused ");
-            number(refused as usize);
+            print_text(b" refused ");
+            print_number(refused as usize);
         }
         Summary::Counted(c) => {
-            text(b" version ");
-            number(c.version as usize);
-            text(b" user ");
-            number(c.capacity);
-            text(b" used ");
-            number(c.used);
-            text(b" live ");
-            number(c.live);
+            print_text(b" version ");
+            print_number(c.version as usize);
+            print_text(b" user ");
+            print_number(c.capacity);
+            print_text(b" used ");
+            print_number(c.used);
+            print_text(b" live ");
+            print_number(c.live);
         }
     }
 }
@@ -108,35 +108,35 @@ fn adler(image: &[u8]) -> u32 {
     sum
 }
 
-pub fn image_sum(image: &[u8]) {
-    text(b" image ");
+pub fn print_image_sum(image: &[u8]) {
+    print_text(b" image ");
     io::print_hex(STDOUT_FILENO, adler(image) as u64, 8);
 }
 
 // A line: the label, the report's counts, and the sum of the image.
-pub fn report(label: &[u8], image: &[u8], partition: u8) {
-    text(label);
-    text(b":");
-    report_values(image, partition);
-    image_sum(image);
-    text(b"\n");
+pub fn print_report(label: &[u8], image: &[u8], partition: u8) {
+    print_text(label);
+    print_text(b":");
+    print_report_values(image, partition);
+    print_image_sum(image);
+    print_text(b"\n");
 }
 
 // ` whole` where each number from `from` to below `end` reads back as the page of the round, else the first that doesn't.
-pub fn whole(image: &[u8], partition: u8, from: usize, end: usize, round: usize) {
+pub fn print_read_back(image: &[u8], partition: u8, from: usize, end: usize, round: usize) {
     let n = first_different(image, partition, from, end, round);
     if n < end {
-        text(b" different ");
-        number(n);
+        print_text(b" different ");
+        print_number(n);
     } else {
-        text(b" whole");
+        print_text(b" whole");
     }
 }
 
 // A line: the label, and whether those numbers read back.
-pub fn pages(label: &[u8], image: &[u8], from: usize, end: usize, round: usize) {
-    text(label);
-    text(b":");
-    whole(image, 3, from, end, round);
-    text(b"\n");
+pub fn print_pages(label: &[u8], image: &[u8], from: usize, end: usize, round: usize) {
+    print_text(label);
+    print_text(b":");
+    print_read_back(image, 3, from, end, round);
+    print_text(b"\n");
 }

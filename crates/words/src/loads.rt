@@ -14,7 +14,7 @@ fn byte_word(x: u8) -> u32
 }
 
 // A number of 32 bits as one of 64.
-fn long(x: u32) -> u64
+fn double_width(x: u32) -> u64
     ensures { λ r. ⌜ r ≡ x ⌝ }
 {
     x as u64
@@ -36,7 +36,7 @@ pub fn big8(s: &[u8], at: usize) -> u64
     requires { ⌜ at + 8 ≤ length (now s) ⌝ }
     ensures { λ r. ⌜ Big 8 (now (s .entry)) at r ⌝ }
 {
-    (long(big4(s, at)) << 32) | long(big4(s, at + 4))
+    (double_width(big4(s, at)) << 32) | double_width(big4(s, at + 4))
 }
 
 // The four bytes from a place, little endian.
@@ -55,7 +55,7 @@ pub fn little8(s: &[u8], at: usize) -> u64
     requires { ⌜ at + 8 ≤ length (now s) ⌝ }
     ensures { λ r. ⌜ Little 8 (now (s .entry)) at r ⌝ }
 {
-    long(little4(s, at)) | (long(little4(s, at + 4)) << 32)
+    double_width(little4(s, at)) | (double_width(little4(s, at + 4)) << 32)
 }
 
 // The last six of the eight bytes from a place, little endian: one load and a shift, where six alone are two loads.

@@ -8,7 +8,7 @@ returns : tie.Need-returns
 unfolding cardEntryOf cardVerdictOf
 returns c =
     let v = c .before .before .before .before in
-    rw (v .card-verdict .ensures, v .before .list .ensures)
+    rw (v .card-verdict-of .ensures, v .before .list .ensures)
 
 pub galtuyeg-card-list-spec : {M : Type 1} → statement M
 galtuyeg-card-list-spec =

@@ -6,7 +6,7 @@ use Rattle.capi.proofs.galtuyeg_card_read.Statement.{statement}
 use Rattle.capi.proofs.galtuyeg_card_read.Tie as tie
 
 returns : tie.Need-returns
-returns c = (c .card-verdict .ensures ∙ ap cardVerdictOf (c .before .before .before .read .ensures .0), c .before .before .before .read .ensures .1)
+returns c = (c .card-verdict-of .ensures ∙ ap cardVerdictOf (c .before .before .before .read .ensures .0), c .before .before .before .read .ensures .1)
 
 pub galtuyeg-card-read-spec : {M : Type 1} → statement M
 galtuyeg-card-read-spec =

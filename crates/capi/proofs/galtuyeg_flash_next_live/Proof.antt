@@ -6,7 +6,7 @@ use Rattle.capi.proofs.galtuyeg_flash_next_live.Statement.{statement}
 use Rattle.capi.proofs.galtuyeg_flash_next_live.Tie as tie
 
 returns : tie.Need-returns
-returns c = c .next-live-answer .ensures ∙ ap nextLiveOf (c .before .next-live .ensures .answer-is)
+returns c = c .next-live-of .ensures ∙ ap nextLiveOf (c .before .next-live .ensures .answer-is)
 
 pub galtuyeg-flash-next-live-spec : {M : Type 1} → statement M
 galtuyeg-flash-next-live-spec =

@@ -6,7 +6,7 @@ use Rattle.capi.proofs.galtuyeg_flash_report.Statement.{statement}
 use Rattle.capi.proofs.galtuyeg_flash_report.Tie as tie
 
 returns : tie.Need-returns
-returns c = c .report-answer .ensures ∙ ap reportOf (c .before .report .ensures .answer-is)
+returns c = c .report-of .ensures ∙ ap reportOf (c .before .report .ensures .answer-is)
 
 pub galtuyeg-flash-report-spec : {M : Type 1} → statement M
 galtuyeg-flash-report-spec = tie.close (tie.spec (λ c κs. search needs) (λ c κs. search needs) returns)

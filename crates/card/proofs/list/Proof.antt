@@ -33,8 +33,8 @@ from c = start (opened c) .args .from
 abbrev used : tie.Else1 → List ℕ
 used c = opened c .«open» .last .1 .0
 
-open-card : (c : tie.Else1) → OpenCard (card c) (used c) (opened c .«open» .result .count) (opened c .«open» .last .1 .1 .0)
-open-card c = opened c .«open» .ensures .1 (eq-eqb _ _ (c .if1 .left))
+is-open : (c : tie.Else1) → OpenCard (card c) (used c) (opened c .«open» .result .count) (opened c .«open» .last .1 .1 .0)
+is-open c = opened c .«open» .ensures .1 (eq-eqb _ _ (c .if1 .left))
 
 open-requires : tie.Need-open-requires
 unfolding noMarks
@@ -47,30 +47,30 @@ returns c =
     c .not-listed .ensures ∙ list-refused (start o .args .card .now) _ (o .«open» .ensures .0) (start o .args .from) (d .if1 .taken)
 
 first-used-requires : tie.Need-first-used-requires
-first-used-requires c κs = open-card (c .before) .listed .fits
+first-used-requires c κs = is-open (c .before) .listed .fits
 
 returns-2 : tie.Need-returns-2
 returns-2 c =
     let e = c .before .before in
     let u = e .before .before in
     let d = accepted u in
-    let q = found-none _ (sym (u .first-used .ensures _ (open-card d .listed)) ∙ e .enum-told .given .1) in
+    let q = found-none _ (sym (u .first-used .ensures _ (is-open d .listed)) ∙ e .enum-told .given .1) in
     c .not-listed2 .ensures ∙ ap notListed (c .before .refused-at .ensures) ∙ list-passed (card d) _ (opened d .«open» .ensures .0) (from d) (d .if1 .left) _ q
 
 entry-at-requires : tie.Need-entry-at-requires
 entry-at-requires c κs =
     let u = c .before .before .before in
     let d = accepted u in
-    let q = found-some _ _ (sym (u .first-used .ensures _ (open-card d .listed)) ∙ c .before .i .given .1) in
-    (open-card d .rows .long, used-below (directoryOf (card d)) (from d) _ q)
+    let q = found-some _ _ (sym (u .first-used .ensures _ (is-open d .listed)) ∙ c .before .i .given .1) in
+    (is-open d .rows .long, used-below (directoryOf (card d)) (from d) _ q)
 
 returns-3 : tie.Need-returns-3
 returns-3 c =
     let t = c .before .before in
     let u = t .before .before .before in
     let d = accepted u in
-    let q = found-some _ _ (sym (u .first-used .ensures _ (open-card d .listed)) ∙ t .before .i .given .1) in
-    c .listed .ensures ∙ ap (listedEntry _) (c .before .entry-at .ensures .0) ∙ list-passed (card d) _ (opened d .«open» .ensures .0) (from d) (d .if1 .left) _ q
+    let q = found-some _ _ (sym (u .first-used .ensures _ (is-open d .listed)) ∙ t .before .i .given .1) in
+    c .listing-of .ensures ∙ ap (listedEntry _) (c .before .entry-at .ensures .0) ∙ list-passed (card d) _ (opened d .«open» .ensures .0) (from d) (d .if1 .left) _ q
 
 pub list-spec : {M : Type 1} → statement M
 list-spec =

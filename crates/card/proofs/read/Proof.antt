@@ -42,8 +42,8 @@ index c = start (opened c) .args .index
 abbrev buffer : tie.Else1 → List ℕ
 buffer c = start (opened c) .args .block .now
 
-open-card : (c : tie.Else1) → OpenCard (card c) (opened c .«open» .last .1 .0) (opened c .«open» .result .count) (opened c .«open» .last .1 .1 .0)
-open-card c = opened c .«open» .ensures .1 (eq-eqb _ _ (c .if1 .left))
+is-open : (c : tie.Else1) → OpenCard (card c) (opened c .«open» .last .1 .0) (opened c .«open» .result .count) (opened c .«open» .last .1 .1 .0)
+is-open c = opened c .«open» .ensures .1 (eq-eqb _ _ (c .if1 .left))
 
 -- what the rest of a read answers and leaves, the read does
 answered : (c : tie.Else1) {r : Verdict} {left : List ℕ} → ReadAs (card c) (name c) (index c) (buffer c) r left
@@ -74,7 +74,7 @@ returns-3 c =
 find-named-requires : tie.Need-find-named-requires
 find-named-requires c κs =
     let d = accepted (c .before) in
-    (open-card d .rows .long, open-card d .listed)
+    (is-open d .rows .long, is-open d .listed)
 
 returns-4 : tie.Need-returns-4
 returns-4 c =
@@ -90,7 +90,7 @@ read-block-requires : tie.Need-read-block-requires
 read-block-requires c κs =
     let i = c .before .before in
     let m = measured (i .before .before) in
-    (open-card (accepted m) .rows, named-used _ _ _ (named i), m .if3 .left)
+    (is-open (accepted m) .rows, named-used _ _ _ (named i), m .if3 .left)
 
 returns-5 : tie.Need-returns-5
 returns-5 c =

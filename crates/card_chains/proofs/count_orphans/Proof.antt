@@ -7,20 +7,20 @@ use Rattle.card_chains.proofs.count_orphans.Tie as tie
 use Rattle.card_chains.proofs.count_orphans.Reads as reads
 use Rattle.card_chains.proofs.count_orphans.Lts as lts
 use Rattle.card_chains.proofs.count_marked.Reads as count-marked-reads
-use Rattle.card_chains.proofs.count_used.Reads as count-used-reads
+use Rattle.card_chains.proofs.count_in_use.Reads as count-in-use-reads
 use Rattle.words.proofs.wide.Reads as wide-reads
 
 sub-result : tie.Need-sub-result
 sub-result c =
     let m = c .before in
     let u = m .before in
-    orphans-are _ _ (u .before .before .pre .1) (u .count-used .ensures) (c .wide .ensures .0 ∙ m .count-marked .ensures) .0
+    orphans-are _ _ (u .before .before .pre .1) (u .count-in-use .ensures) (c .wide .ensures .0 ∙ m .count-marked .ensures) .0
 
 returns : tie.Need-returns
 returns c =
     let m = c .before in
     let u = m .before in
-    orphans-are _ _ (u .before .before .pre .1) (u .count-used .ensures) (c .wide .ensures .0 ∙ m .count-marked .ensures) .1
+    orphans-are _ _ (u .before .before .pre .1) (u .count-in-use .ensures) (c .wide .ensures .0 ∙ m .count-marked .ensures) .1
 
 pub count-orphans-spec : {M : Type 1} → statement M
 count-orphans-spec =

@@ -11,11 +11,11 @@ returns : tie.Need-returns
 unfolding cardLength
 returns c =
     let d = c .before .before in
-    refusal (c .refused .ensures .0 ∙ c .before .refused-at .ensures) (λ z. omega (arith, z)) (wrong-length _ (d .if1 .taken))
+    refusal (c .not-opened .ensures .0 ∙ c .before .refused-at .ensures) (λ z. omega (arith, z)) (wrong-length _ (d .if1 .taken))
 
-open-card-requires : tie.Need-open-card-requires
+open-right-length-requires : tie.Need-open-right-length-requires
 unfolding cardLength
-open-card-requires c κs =
+open-right-length-requires c κs =
     let d = c .before .before in
     let a = d .before .before .pre in
     (d .if1 .left, a .0, a .1)
@@ -23,4 +23,4 @@ open-card-requires c κs =
 pub open-spec : {M : Type 1} → statement M
 open-spec =
     tie.close
-    (tie.spec (λ c κs. search needs) (λ c κs. search needs) returns open-card-requires (λ c. search needs))
+    (tie.spec (λ c κs. search needs) (λ c κs. search needs) returns open-right-length-requires (λ c. search needs))

@@ -8,7 +8,7 @@ use native.Mathlib.Omega.{arith}
 use Rattle.card_model.specs.Layout.{tableOf, directoryOf}
 use Rattle.card_model.specs.Entries.{firstBlock, size}
 use Rattle.card_model.specs.Files.{chain, orEmpty, rising}
-use Rattle.card_games.proofs.GameLaws.{game-chain, game-rule}
+use Rattle.card_games.proofs.GameLaws.{chain-of-game, game-rule}
 use borrow.Author.Needs.{needs}
 use Rattle.card_games.proofs.breaks_game_rule.Statement.{statement}
 use Rattle.card_games.proofs.breaks_game_rule.Tie as tie
@@ -76,7 +76,7 @@ rises-requires c κs =
     let card = a .args .card .now in
     let e = game-rule (directoryOf card) (a .args .i) (n .result .now) (n .ensures .0) (tableOf card) in
     let z = sym (d .first-block .ensures) ∙ c .before .before .if3 .left in
-    let k = game-chain (tableOf card) (n .result .now) (sym (g .is-game .ensures) ∙ not-false _ (f .if1 .left))
+    let k = chain-of-game (tableOf card) (n .result .now) (sym (g .is-game .ensures) ∙ not-false _ (f .if1 .left))
     (rw (n .ensures .0) (a .pre .1 .fields (a .args .i) (a .pre .0 .1))) (rw (n .ensures .0) (a .pre .1 .chains (a .args .i) (a .pre .0 .1))) z in
     let q = c .before .size .ensures in
     ((a .pre .0 .0, rw q (k .most)), rw q (k .there))
@@ -91,7 +91,7 @@ returns-5 c =
     let card = a .args .card .now in
     let e = game-rule (directoryOf card) (a .args .i) (n .result .now) (n .ensures .0) (tableOf card) in
     let z = sym (d .first-block .ensures) ∙ c .before .before .before .if3 .left in
-    let k = game-chain (tableOf card) (n .result .now) (sym (g .is-game .ensures) ∙ not-false _ (f .if1 .left))
+    let k = chain-of-game (tableOf card) (n .result .now) (sym (g .is-game .ensures) ∙ not-false _ (f .if1 .left))
     (rw (n .ensures .0) (a .pre .1 .fields (a .args .i) (a .pre .0 .1))) (rw (n .ensures .0) (a .pre .1 .chains (a .args .i) (a .pre .0 .1))) z in
     let q = c .before .before .size .ensures in
     let r = c .rises .ensures ∙ ap (λ (m : ℕ). rising (orEmpty (chain (tableOf card) m 0))) q ∙ ap (λ (l : List ℕ). rising l) (k .file) in

@@ -11,7 +11,7 @@ use Rattle.card_model.specs.Layout.{tableOf}
 use Rattle.card_model.specs.Table.{linkOf, linkAt}
 use Rattle.card_model.specs.Files.{chain, orEmpty, rising}
 use Rattle.card_games.specs.Rules.{leadsTo}
-use Rattle.card_games.proofs.GameLaws.{goes-on, ends}
+use Rattle.card_games.proofs.GameLaws.{chain-goes-on, ends}
 use borrow.Author.Needs.{needs}
 use Rattle.card_games.proofs.rises.Statement.{statement}
 use Rattle.card_games.proofs.rises.Tie as tie
@@ -27,7 +27,7 @@ module _ (table : List ℕ) (blocks : ℕ) where
   module _ (b : ℕ) (h : b + 1 < blocks) (r : Risen b) where
     risen-next : leadsTo (linkAt table b) (b + 1) ≡ true → Risen (b + 1)
     risen-next q =
-        let g = goes-on table (blocks - b) b (omega arith) (r .there) in
+        let g = chain-goes-on table (blocks - b) b (omega arith) (r .there) in
         let t = ap (λ (l : Link). leadsTo l (b + 1)) (sym (g .link-is)) ∙ q in
         let e : g .next ≡ b + 1 = eqb-true _ _ t in
         let k : blocks - b - 1 ≡ blocks - (b + 1) = omega arith in
@@ -35,7 +35,7 @@ module _ (table : List ℕ) (blocks : ℕ) where
 
     risen-not : leadsTo (linkAt table b) (b + 1) ≡ false → rising (orEmpty (chain table blocks 0)) ≡ false
     risen-not q =
-        let g = goes-on table (blocks - b) b (omega arith) (r .there) in
+        let g = chain-goes-on table (blocks - b) b (omega arith) (r .there) in
         r .decides ∙ g .rises ∙ rw (ap (λ (l : Link). leadsTo l (b + 1)) (sym (g .link-is)) ∙ q)
 
 abbrev Inv-loop : tie.InvT-loop

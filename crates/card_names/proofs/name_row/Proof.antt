@@ -63,7 +63,7 @@ slotted w = w .before .before .before
 
 last-of-slot : (w : tie.After-wide Inv-loop μ-loop)
     → LastOf (slotAt (directory (turn (slotted w))) (used (turn (slotted w)))) (slotted w .entry-slot .result) (turn (slotted w) .loop .j) (w .wide .result)
-last-of-slot w = subst (LastOf _ _ _) (sym (w .wide .ensures .0)) (turn (slotted w) .loop .inv .1 .last _ (slotted w .entry-slot .ensures .1))
+last-of-slot w = subst (LastOf _ _ _) (sym (w .wide .ensures .0)) (turn (slotted w) .loop .inv .1 .newest _ (slotted w .entry-slot .ensures .1))
 
 loop-holds : tie.Need-loop-holds Inv-loop μ-loop
 loop-holds c = (omega arith, slots-start _ _, refl, none-start)
@@ -103,7 +103,7 @@ loop-again c =
     let j = l .loop .j in
     let h = below s in
     let b : j < 208 = omega (arith, h, list l .fits) in
-    let o = l .loop .inv .1 .last _ (s .entry-slot .ensures .1) in
+    let o = l .loop .inv .1 .newest _ (s .entry-slot .ensures .1) in
     let free : (start r : ℕ) → LastOf (slotAt (directory l) (used l)) (s .entry-slot .result) j start
     → LastOf (nameAt (directory l) (used l)) (nameOf (entryAt (directory l) (entry s))) start r → r ≡ 0 → nameTaken (directory l) (entry s) ≡ false =
     λ start r x y. name-free _ _ (list l) j _ (is-entry s) h (last-named (directory l) (used l) x (own-slot s) y) in

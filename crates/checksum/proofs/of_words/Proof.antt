@@ -38,7 +38,7 @@ loop-again c =
 returns : tie.Need-returns Inv-loop μ-loop
 returns c =
     let l = c .before .before .before .before .loop in
-    c .rest .ensures
+    c .take-bytes-from .ensures
     ∙ ap (λ (n : ℕ). crcFrom n (drop (l .i) (c .before .before .before .before .before .before .args .bytes .now)))
     (c .before .fold16 .ensures ∙ ap (shifts 16) (c .before .before .remainder .ensures))
     ∙ l .inv .1

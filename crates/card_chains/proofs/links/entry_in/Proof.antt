@@ -6,7 +6,7 @@ use Rattle.card_chains.proofs.links.entry_in.Tie as tie
 
 returns : tie.Need-returns
 unfolding fatEntry
-returns c = c .wide .ensures
+returns c = c .wide-entry .ensures
 
 pub entry-in-spec : {M : Type 1} → statement M
 entry-in-spec = tie.close (tie.spec (λ c. search needs) (λ c. search needs) (λ c κs. search needs) returns)

@@ -19,7 +19,7 @@ loop-holds : tie.Need-loop-holds Inv-loop μ-loop
 loop-holds c = (omega arith, listed-start _ _ (c .before .pre .1))
 
 loop-again : tie.Need-loop-again Inv-loop μ-loop
-loop-again c = (omega arith, c .put .ensures)
+loop-again c = (omega arith, c .list-entry .ensures)
 
 returns : tie.Need-returns Inv-loop μ-loop
 returns c =

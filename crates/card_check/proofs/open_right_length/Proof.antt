@@ -1,4 +1,4 @@
--- `open_card` meets its contract: the rows in their order, each `return` the first that refuses. Assumes nothing.
+-- `open_right_length` meets its contract: the rows in their order, each `return` the first that refuses. Assumes nothing.
 use Prim.Native.Nat.{ℕ}
 use mathlib.Core.Path.{_≡_, sym, ap, _∙_}
 use mathlib.Core.List.{List}
@@ -11,10 +11,10 @@ use Rattle.card_model.specs.Files.{gameRow}
 use Rattle.card_model.specs.Calls.{tableRows, directoryRows, verdictOf}
 use Rattle.card_model.proofs.SoundLaws.{accepted-rows}
 use Rattle.card_chains.specs.Rows.{chainRows}
-use Rattle.card_check.proofs.RowLaws.{refusal, refuses, passes, entries-right, good-chains, right-length, from-26}
+use Rattle.card_check.proofs.RowLaws.{refusal, refuses, passes, entries-right, chains-good, right-length, from-26}
 use borrow.Author.Needs.{needs}
-use Rattle.card_check.proofs.open_card.Statement.{statement}
-use Rattle.card_check.proofs.open_card.Tie as tie
+use Rattle.card_check.proofs.open_right_length.Statement.{statement}
+use Rattle.card_check.proofs.open_right_length.Tie as tie
 
 -- ---- the places behind the tests, each from the one after it
 
@@ -66,13 +66,13 @@ returns : tie.Need-returns
 returns c =
     let d = c .before in
     let t = d .before .before in
-    refusal (c .refused .ensures .0) (d .if1 .taken) (refuses _ _ (at-21 (t .before .before)) (t .table-verdict .ensures) (d .if1 .taken))
+    refusal (c .not-opened .ensures .0) (d .if1 .taken) (refuses _ _ (at-21 (t .before .before)) (t .table-verdict .ensures) (d .if1 .taken))
 
 returns-2 : tie.Need-returns-2
 returns-2 c =
     let d = c .before in
     let t = d .before .before in
-    refusal (c .refused2 .ensures .0) (d .if2 .taken) (refuses _ _ (at-26 (t .before .before .before .before)) (t .entry-row .ensures) (d .if2 .taken))
+    refusal (c .not-opened2 .ensures .0) (d .if2 .taken) (refuses _ _ (at-26 (t .before .before .before .before)) (t .entry-row .ensures) (d .if2 .taken))
 
 list-used-requires : tie.Need-list-used-requires
 list-used-requires c κs =
@@ -92,7 +92,7 @@ returns-3 : tie.Need-returns-3
 returns-3 c =
     let d = c .before in
     let t = d .before .before in
-    refusal (c .refused3 .ensures .0) (d .if3 .taken) (refuses _ _ (at-27 (t .before .before .before)) (t .walk-files .ensures .0) (d .if3 .taken))
+    refusal (c .not-opened3 .ensures .0) (d .if3 .taken) (refuses _ _ (at-27 (t .before .before .before)) (t .walk-files .ensures .0) (d .if3 .taken))
 
 name-row-requires : tie.Need-name-row-requires
 name-row-requires c κs =
@@ -103,13 +103,13 @@ returns-4 : tie.Need-returns-4
 returns-4 c =
     let d = c .before in
     let t = d .before .before in
-    refusal (c .refused4 .ensures .0) (d .if4 .taken) (refuses _ _ (at-29 (t .before .before)) (t .name-row .ensures) (d .if4 .taken))
+    refusal (c .not-opened4 .ensures .0) (d .if4 .taken) (refuses _ _ (at-29 (t .before .before)) (t .name-row .ensures) (d .if4 .taken))
 
 game-row-requires : tie.Need-game-row-requires
 game-row-requires c κs =
     let d = past-28 (c .before) in
     let e = past-26 d in
-    let good = good-chains _ (e .before .before .entry-row .ensures) (e .if2 .left) _ (d .before .before .walk-files .ensures .0) (d .if3 .left) in
+    let good = chains-good _ (e .before .before .entry-row .ensures) (e .if2 .left) _ (d .before .before .walk-files .ensures .0) (d .if3 .left) in
     (start (past-25 e) .pre .0, (good, listed e .list-used .ensures))
 
 returns-5 : tie.Need-returns-5
@@ -124,8 +124,8 @@ returns-5 c =
       },
     )
 
-pub open-card-spec : {M : Type 1} → statement M
-open-card-spec =
+pub open-right-length-spec : {M : Type 1} → statement M
+open-right-length-spec =
     tie.close
     (tie.spec
     (λ c κs. search needs)

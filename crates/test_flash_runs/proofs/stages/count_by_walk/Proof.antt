@@ -1,8 +1,8 @@
--- `walked` meets its contract. Assumes nothing.
+-- `count_by_walk` meets its contract. Assumes nothing.
 use Prim.Native.Nat.{_≤_, _-_}
 use borrow.Author.Needs.{needs}
-use Rattle.test_flash_runs.proofs.stages.walked.Statement.{statement}
-use Rattle.test_flash_runs.proofs.stages.walked.Tie as tie
+use Rattle.test_flash_runs.proofs.stages.count_by_walk.Statement.{statement}
+use Rattle.test_flash_runs.proofs.stages.count_by_walk.Tie as tie
 
 abbrev Inv-loop : tie.InvT-loop
 Inv-loop image partition end live₀ from₀ live from = live ≤ end
@@ -10,8 +10,8 @@ Inv-loop image partition end live₀ from₀ live from = live ≤ end
 abbrev μ-loop : tie.MeasureT-loop
 μ-loop image partition end live₀ from₀ live from = end - live
 
-pub walked-spec : {M : Type 1} → statement M
-walked-spec =
+pub count-by-walk-spec : {M : Type 1} → statement M
+count-by-walk-spec =
     tie.close
     (tie.spec
     Inv-loop

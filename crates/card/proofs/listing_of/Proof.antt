@@ -1,11 +1,11 @@
--- `listed` meets its contract. Assumes nothing.
+-- `listing_of` meets its contract. Assumes nothing.
 use mathlib.Core.Path.{_∙_}
 use Rattle.card_model.specs.Entries.{kind, flag, nameOf, timeOf}
 use Rattle.card_model.specs.Calls.{listedEntry}
 use Rattle.card.proofs.AnswerLaws.{name-part, time-part}
 use borrow.Author.Needs.{needs}
-use Rattle.card.proofs.listed.Statement.{statement}
-use Rattle.card.proofs.listed.Tie as tie
+use Rattle.card.proofs.listing_of.Statement.{statement}
+use Rattle.card.proofs.listing_of.Tie as tie
 
 returns : tie.Need-returns
 unfolding listedEntry kind flag nameOf timeOf
@@ -16,8 +16,8 @@ returns c =
     let m = c .before .before .before .before .before .before .before .copy2 .ensures .1 ∙ time-part found (a .pre) in
     rw (c .before .before .before .before .before .done .ensures, c .before .before .first-block .ensures, c .before .size .ensures, c .header-offset .ensures, n, m)
 
-pub listed-spec : {M : Type 1} → statement M
-listed-spec =
+pub listing-of-spec : {M : Type 1} → statement M
+listing-of-spec =
     tie.close
     (tie.spec
     (λ c. search needs)

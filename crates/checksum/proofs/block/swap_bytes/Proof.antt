@@ -1,12 +1,12 @@
--- `checksum::block::swap` meets its contract: the bytes are put in their place one by one.
+-- `checksum::block::swap_bytes` meets its contract: the bytes are put in their place one by one.
 -- Assumes nothing.
 use Prim.Native.Nat.{_/_}
 use mathlib.Core.Path.{refl, sym}
 use lib.Dec.{lit≤}
 use lib.Pow.{shr-shr}
 use Rattle.checksum.proofs.LittleLaws.{swap-start, swap-next, swap-end}
-use Rattle.checksum.proofs.block.swap.Statement.{statement}
-use Rattle.checksum.proofs.block.swap.Tie as tie
+use Rattle.checksum.proofs.block.swap_bytes.Statement.{statement}
+use Rattle.checksum.proofs.block.swap_bytes.Tie as tie
 
 returns : tie.Need-returns
 returns c =
@@ -20,5 +20,5 @@ returns c =
     let seven = swap-next 1 _ _ _ (lit≤ tt) (shr-shr x 48 8) six in
     sym (swap-end _ _ seven)
 
-pub swap-spec : {M : Type 1} → statement M
-swap-spec = tie.close (tie.spec returns)
+pub swap-bytes-spec : {M : Type 1} → statement M
+swap-bytes-spec = tie.close (tie.spec returns)

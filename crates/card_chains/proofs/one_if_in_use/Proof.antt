@@ -1,10 +1,10 @@
--- `one_if_used` meets its contract. Assumes nothing.
+-- `one_if_in_use` meets its contract. Assumes nothing.
 use Rattle.card_chains.proofs.LinkLaws.{use-read}
 use borrow.Author.Needs.{needs}
-use Rattle.card_chains.proofs.one_if_used.Statement.{statement}
-use Rattle.card_chains.proofs.one_if_used.Tie as tie
-use Rattle.card_chains.proofs.one_if_used.Reads as reads
-use Rattle.card_chains.proofs.one_if_used.Lts as lts
+use Rattle.card_chains.proofs.one_if_in_use.Statement.{statement}
+use Rattle.card_chains.proofs.one_if_in_use.Tie as tie
+use Rattle.card_chains.proofs.one_if_in_use.Reads as reads
+use Rattle.card_chains.proofs.one_if_in_use.Lts as lts
 use Rattle.card_table.proofs.classify.Reads as classify-reads
 use Rattle.card_table.proofs.fat_entry.Reads as fat-entry-reads
 use Rattle.card_table.proofs.free_or_damaged.Reads as free-or-damaged-reads
@@ -21,7 +21,7 @@ returns-2 c =
     let k = u .before in
     (rw (use-read _ _ (k .before .fat-entry .ensures .0) (k .classify .ensures) (u .free-or-damaged .ensures), c .if1 .left), search needs)
 
-pub one-if-used-spec : {M : Type 1} → statement M
-one-if-used-spec =
+pub one-if-in-use-spec : {M : Type 1} → statement M
+one-if-in-use-spec =
     tie.close
     (tie.spec (λ c κs. search needs) (λ c κs. search needs) (λ c κs. search needs) returns returns-2)

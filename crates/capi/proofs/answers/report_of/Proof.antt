@@ -1,8 +1,8 @@
--- `report_answer` meets its contract. Assumes nothing.
+-- `report_of` meets its contract. Assumes nothing.
 use Rattle.capi.specs.Structs.{reportOf}
 use borrow.Author.Needs.{needs}
-use Rattle.capi.proofs.answers.report_answer.Statement.{statement}
-use Rattle.capi.proofs.answers.report_answer.Tie as tie
+use Rattle.capi.proofs.answers.report_of.Statement.{statement}
+use Rattle.capi.proofs.answers.report_of.Tie as tie
 
 returns : tie.Need-returns
 unfolding reportOf
@@ -12,6 +12,6 @@ returns-2 : tie.Need-returns-2
 unfolding reportOf
 returns-2 c = rw (c .before .before .summary2 .given .1)
 
-pub report-answer-spec : {M : Type 1} → statement M
-report-answer-spec =
+pub report-of-spec : {M : Type 1} → statement M
+report-of-spec =
     tie.close (tie.spec (λ c. search needs) (λ c. search needs) (λ c. search needs) (λ c. search needs) returns returns-2)

@@ -1,4 +1,4 @@
--- `checksum::bytewise::rest` meets its contract.
+-- `checksum::bytewise::take_bytes_from` meets its contract.
 -- Assumes nothing.
 use Prim.Native.Nat.{_-_}
 use mathlib.Core.Path.{_≡_, refl, sym, _∙_}
@@ -7,8 +7,8 @@ use borrow.Author.Needs.{needs}
 use lib.ListN.{length, drop}
 use Rattle.checksum.specs.Crc.{crcFrom}
 use Rattle.checksum.proofs.CrcLaws.{crc-next, crc-end}
-use Rattle.checksum.proofs.bytewise.rest.Statement.{statement}
-use Rattle.checksum.proofs.bytewise.rest.Tie as tie
+use Rattle.checksum.proofs.bytewise.take_bytes_from.Statement.{statement}
+use Rattle.checksum.proofs.bytewise.take_bytes_from.Tie as tie
 
 abbrev Inv-loop : tie.InvT-loop
 Inv-loop bytes from start n₀ i₀ n i = crcFrom n (drop i bytes) ≡ crcFrom start (drop from bytes)
@@ -27,13 +27,13 @@ loop-less c = omega arith
 
 loop-again : tie.Need-loop-again Inv-loop μ-loop
 loop-again c =
-    rw (c .takes .ensures) (sym (crc-next _ _ _ (c .before .before .loop-test .taken)) ∙ c .before .before .before .loop .inv)
+    rw (c .take-byte .ensures) (sym (crc-next _ _ _ (c .before .before .loop-test .taken)) ∙ c .before .before .before .loop .inv)
 
 returns : tie.Need-returns Inv-loop μ-loop
 returns c = sym (crc-end _ _ _ (c .loop-test .left)) ∙ c .before .loop .inv
 
-pub rest-spec : {M : Type 1} → statement M
-rest-spec =
+pub take-bytes-from-spec : {M : Type 1} → statement M
+take-bytes-from-spec =
     tie.close
     (tie.spec
     Inv-loop
