@@ -1,4 +1,4 @@
--- The first number that passes a test, remembered while a loop goes on to its end. Assumes nothing.
+-- The first number that passes a test, kept while a loop goes on to its end. Assumes nothing.
 use Prim.Native.Nat.{ℕ, suc, _+_, _≤_, _<_}
 use mathlib.Core.Path.{_≡_, refl, sym, ap, _∙_}
 use mathlib.Core.Bool.{Bool, true, false, cond}
@@ -49,7 +49,7 @@ module _ (p : ℕ → Bool) (end first : ℕ) where
             here false = d
         go (some k) l d = rw (lt-ltb first end (omega (arith, lowest-some p 0 i k l .high))) d
 
-    -- none is remembered still
+    -- none is kept still
     pub still-none : end ≤ r → (end ≤ first) × (t ≡ false)
     still-none n = go (ltb first end) refl t f
       where

@@ -58,7 +58,7 @@ module _ (table : List ℕ) where
   pub walkable-start : (marks : List ℕ) (left b : ℕ) → Lengths table marks → Walkable table marks left b
   walkable-start marks left b l = record { many = l .long; up-to-left = λ x e h. l .each x e; all-if-good = λ s. l }
 
-  -- at block b, with so many blocks left
+  -- at block b, with `left` blocks left
   module _ (marks : List ℕ) (b left : ℕ) (k : Walkable table marks left b) where
     pub walked-met : {found : Finding} {mark : ℕ} → mark ≡ getD marks b 0 → (mark ≡ 0 → ⊥) → found ≡ cond (eqb mark left) (outcome true) Broken
         → Walked table (chain table left b) marks found marks

@@ -53,7 +53,7 @@ isShared Apart = false
 isShared Shared = true
 isShared Broken = false
 
--- What the marks are where a walk has come to block b with so many blocks left. Those above `left` may be of this walk: they are
+-- What the marks are where a walk has come to block b with `left` blocks left. Those above `left` may be of this walk: they are
 -- lengths of chains if the rest of the walk is one.
 pub record Walkable (table marks : List ℕ) (left b : ℕ) : Type 0 where
   pub many : length marks ≡ 200

@@ -14,7 +14,7 @@ stepFrom b Free = b
 stepFrom b Damaged = b
 stepFrom b Bad = b
 
--- The block that so many steps from b lead to.
+-- The block that a number of steps from b lead to.
 unfoldable pub blockAfter : List ℕ → ℕ → ℕ → ℕ
 blockAfter table b zero = b
 blockAfter table b (suc steps) = blockAfter table (stepFrom b (linkAt table b)) steps

@@ -34,7 +34,7 @@ ghost use Rattle.card_chains.specs.Marks.{noMarks, isMarked, MarkedFiles
 ghost use Rattle.card_chains.specs.Rows.{chainRows};
 ghost use Rattle.card_chains.specs.Counts.{isInUse, countTo};
 
-// The first entry that shares a block: the one remembered, or else this one. 208 is none.
+// Of the entries that share a block the earliest is kept: `first` if there is one, or else i. 208 is none.
 fn keep_earlier(first: usize, i: usize) -> usize
     ensures { λ r. ⌜ r ≡ cond (ltb first 208) first i ⌝ }
 {
@@ -45,7 +45,7 @@ fn keep_earlier(first: usize, i: usize) -> usize
 }
 
 // Refusals 27 and 28, over the list of the used entries. A bad chain anywhere comes before a shared block, so the first entry that
-// shares one is remembered and the pass goes on.
+// shares one is kept and the pass goes on.
 pub fn walk_files(card: &[u8], used: &[u8; 208], count: usize, marks: &mut [u8; 200]) -> Verdict
     requires { ⌜ (length (now card) ≡ cardLength) × (now marks ≡ noMarks) ⌝ }
     requires { ⌜ Listed (directoryOf (now card)) 208 (now used) count ⌝ }
@@ -85,7 +85,7 @@ fn one_if_in_use(card: &[u8], b: usize) -> u16
     1
 }
 
-// How many user blocks the table has in use. The count has as many bits as an entry, so that the loop is compiled to steps of eight.
+// How many user blocks the table has in use. The count has as many bits as an entry.
 fn count_in_use(card: &[u8]) -> u16
     requires { ⌜ length (now card) ≡ cardLength ⌝ }
     ensures { λ r. ⌜ r ≡ countTo (isInUse (tableOf (now (card .entry)))) 200 ⌝ }

@@ -1,10 +1,9 @@
-// What an array of the table says of a block. The walks recurse over the array and not over the card: a slice has a length beside
-// its address and goes through memory at each call, and then the compiler doesn't make a loop of the recursion.
+// What an array of the table says of a block. The walks recurse over it and not over the card: that would be a call for each block.
 ghost use mathlib.Core.Path.{_≡_};
 ghost use Prim.Native.Nat.{_<_};
 ghost use Rattle.card_model.specs.Table.{fatEntry};
 
-// An entry as a wider number: of a parameter the prover knows that it fits, of an element of a lent array it does not.
+// An entry as a wider number, with its bound.
 fn wide_entry(e: u16) -> usize
     ensures { λ r. ⌜ (r ≡ e) × (r < 65536) ⌝ }
 {

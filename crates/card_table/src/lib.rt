@@ -33,7 +33,7 @@ pub(crate) enum Region {
     User,
 }
 
-// The table's entry of a block. It is read from a part of its own, so that its two bytes are one load.
+// The table's entry of a block, in one load: from a part of its own.
 pub fn fat_entry(card: &[u8], b: usize) -> usize
     requires { ⌜ (length (now card) ≡ cardLength) × (b < 256) ⌝ }
     ensures { λ r. ⌜ (r ≡ fatEntry (tableOf (now (card .entry))) b) × (r < 65536) ⌝ }
@@ -43,7 +43,7 @@ pub fn fat_entry(card: &[u8], b: usize) -> usize
     word(&card[at..end], 0)
 }
 
-// The whole table. Its numbers have no more than their two bytes, so that a loop over it is compiled to steps of several entries.
+// The whole table, each number in its two bytes.
 pub fn read_table(card: &[u8]) -> [u16; 256]
     requires { ⌜ length (now card) ≡ cardLength ⌝ }
     ensures { λ r. ⌜ r ≡ tableOf (now (card .entry)) ⌝ }
@@ -118,7 +118,7 @@ fn is_wrong(card: &[u8], region: Region, b: usize) -> bool
     }
 }
 
-// Whether a block of a range is wrong. The loop has no way out, so that it is compiled to steps of several entries.
+// Whether a block of a range is wrong. The loop has no early exit: several entries go in one step.
 fn any_wrong(card: &[u8], region: Region, from: usize, to: usize) -> bool
     requires { ⌜ (length (now card) ≡ cardLength) × (to ≤ 256) ⌝ }
     requires { ⌜ Ready region from ⌝ }

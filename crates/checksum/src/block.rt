@@ -25,7 +25,7 @@ struct Two {
     b: u64,
 }
 
-// Four words with a fifth behind them, folded into four.
+// Four words that take a fifth behind them, folded into four.
 fn take_word(f: Four, e: u64) -> Four
     ensures { λ r. ⌜ remFour (r .a) (r .b) (r .c) (r .d) ≡ bitXor (shifts 64 (remFour (f .a) (f .b) (f .c) (f .d))) (remLittle 8 e) ⌝ }
 {
@@ -48,7 +48,7 @@ fn fold128(a: u64, b: u64, c: u64) -> Two
     }
 }
 
-// A word with its bytes in the other order. The compiler makes one instruction of this expression.
+// A word with its bytes in the other order.
 fn swap_bytes(x: u64) -> u64
     ensures { λ r. ⌜ rem 64 r ≡ remLittle 8 x ⌝ }
 {
@@ -72,7 +72,7 @@ fn remainder_of_four(f: Four) -> u16
 }
 
 // The checksum of 62 bytes: seven words, and six bytes that 16 shifts stand behind. 18825 in the first of them does what FFFF at the
-// start and the inversion at the end do to so many digits, whatever they are.
+// start and the inversion at the end do to 62 bytes, whatever they are.
 pub fn of_block(bytes: &[u8]) -> u16
     requires { ⌜ length (now bytes) ≡ 62 ⌝ }
     ensures { λ r. ⌜ r ≡ checksumOf (now (bytes .entry)) ⌝ }

@@ -10,8 +10,8 @@ fn shift(n: u16) -> u16
     if 32768 <= n { (n << 1) ^ 4129 } else { n << 1 }
 }
 
-// The running value n with the byte b taken into its top half. This shape of loop is one that the compiler knows as a
-// CRC and turns into a table of its own; written out by hand it is several times slower.
+// The running value n with the byte b taken into its top half. The eight shifts are a loop: written out by hand they are several
+// times slower.
 fn take_byte(n: u16, b: u8) -> u16
     ensures { λ r. ⌜ r ≡ sum.takeByte n b ⌝ }
 {

@@ -4,13 +4,13 @@ use libc::STDIN_FILENO;
 use libc::STDOUT_FILENO;
 ghost use Rattle.report.specs.Inputs.{Held, HeldImage};
 
-// What one read gave: so many bytes, none at the input's end, or an error.
+// What one read gave: n bytes, 0 at the input's end, or an error.
 enum Got {
     Bytes(usize),
     Failed,
 }
 
-// What the whole input is: an image of so many bytes, more than the buffer holds, or cut off by an error.
+// What the whole input is: an image of n bytes, more than the buffer holds, or cut off by an error.
 enum Input {
     Image(usize),
     TooLong,

@@ -23,7 +23,7 @@ use Rattle.flash.specs.declared.LiveNumber.{LiveNumber}
 use Rattle.flash.specs.declared.LiveNumber.the-variants.{Hit, Refused}
 use Rattle.report_text.specs.Text.{line, blockWord, blockLines}
 use Rattle.report_text.specs.Written.{Wrote}
-use Rattle.report_text.proofs.WrittenLaws.{Left, left-nothing}
+use Rattle.report_text.proofs.WrittenLaws.{StillToWrite, left-nothing}
 
 -- ---- kept numbers of a range
 
@@ -121,8 +121,8 @@ module _ (image : List ℕ) (partition from : ℕ) (passed : refusal image parti
       let m = measures-of (length image) (meanings .sound-means image .0 sound .legal-size) in
       (l .0, (l .1, omega (arith, l .1, m .two-bytes)))
 
-  module _ {first : List ℕ} {at : ℕ} {whole out : List ℕ} {end : ℕ} (l : Left first at whole out end (linesFrom image from)) where
-    pub number-left : {n : ℕ} → r ≡ Hit n → Left first at whole out end (line blockWord n ++ linesFrom image (n + 1))
+  module _ {first : List ℕ} {at : ℕ} {whole out : List ℕ} {end : ℕ} (l : StillToWrite first at whole out end (linesFrom image from)) where
+    pub number-left : {n : ℕ} → r ≡ Hit n → StillToWrite first at whole out end (line blockWord n ++ linesFrom image (n + 1))
     number-left e = rw (sym (lines-next image sound from _ (answer-number image partition from r a e))) l
 
     pub none-left : {code : ℕ} → r ≡ Refused code → Wrote first at whole out end

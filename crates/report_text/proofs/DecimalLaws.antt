@@ -8,7 +8,7 @@ use lib.Dec.{ltb}
 use borrow.Author.Tests.{ltb-false, lt-ltb, le-ltb}
 use Rattle.report_text.specs.Text.{digit, digitsIn, decimal, line}
 use Rattle.report_text.specs.Written.{Fits, Wrote}
-use Rattle.report_text.proofs.WrittenLaws.{Left, left-start, left-room, left-next}
+use Rattle.report_text.proofs.WrittenLaws.{StillToWrite, left-start, left-room, left-next}
 
 -- any bound that is enough gives the same digits
 digits-any : (a b n : ℕ) → n ≤ a → n ≤ b → digitsIn a n ≡ digitsIn b n
@@ -41,17 +41,17 @@ module _ {out : List ℕ} {at : ℕ} (n : ℕ) (h : Fits out at (decimal n)) whe
   pub digit-fits : n < 10 → Fits out at (digit (n % 10) ∷ [])
   digit-fits small = rw (decimal-digit n small) at h
 
-  digits-left : 10 ≤ n → Left out at (decimal n) out at (decimal (n / 10) ++ digit (n % 10) ∷ [])
+  digits-left : 10 ≤ n → StillToWrite out at (decimal n) out at (decimal (n / 10) ++ digit (n % 10) ∷ [])
   digits-left more = rw (sym (decimal-step n more)) (left-start h)
 
   pub front-fits : 10 ≤ n → Fits out at (decimal (n / 10))
   front-fits more = left-room (decimal (n / 10)) (digit (n % 10) ∷ []) (digits-left more)
 
-  pub front-left : {out′ : List ℕ} {end : ℕ} → 10 ≤ n → Wrote out at (decimal (n / 10)) out′ end → Left out at (decimal n) out′ end (digit (n % 10) ∷ [])
+  pub front-left : {out′ : List ℕ} {end : ℕ} → 10 ≤ n → Wrote out at (decimal (n / 10)) out′ end → StillToWrite out at (decimal n) out′ end (digit (n % 10) ∷ [])
   front-left more w = left-next (decimal (n / 10)) (digit (n % 10) ∷ []) (digits-left more) w
 
 module _ {out : List ℕ} {at : ℕ} (label : List ℕ) (n : ℕ) (h : Fits out at (line label n)) where
-  line-left : Left out at (line label n) out at (label ++ (32 ∷ (decimal n ++ 10 ∷ [])))
+  line-left : StillToWrite out at (line label n) out at (label ++ (32 ∷ (decimal n ++ 10 ∷ [])))
   unfolding line
   line-left = left-start h
 
@@ -59,12 +59,12 @@ module _ {out : List ℕ} {at : ℕ} (label : List ℕ) (n : ℕ) (h : Fits out 
   label-fits = left-room label (32 ∷ (decimal n ++ 10 ∷ [])) line-left
 
   module _ {out₁ : List ℕ} {blank : ℕ} (w : Wrote out at label out₁ blank) where
-    pub blank-left : Left out at (line label n) out₁ blank (32 ∷ (decimal n ++ 10 ∷ []))
+    pub blank-left : StillToWrite out at (line label n) out₁ blank (32 ∷ (decimal n ++ 10 ∷ []))
     blank-left = left-next label (32 ∷ (decimal n ++ 10 ∷ [])) line-left w
 
     module _ {out₂ : List ℕ} {number : ℕ} (v : Wrote out₁ blank (32 ∷ []) out₂ number) where
-      pub number-left : Left out at (line label n) out₂ number (decimal n ++ 10 ∷ [])
+      pub number-left : StillToWrite out at (line label n) out₂ number (decimal n ++ 10 ∷ [])
       number-left = left-next (32 ∷ []) (decimal n ++ 10 ∷ []) blank-left v
 
-      pub end-left : {out₃ : List ℕ} {end : ℕ} → Wrote out₂ number (decimal n) out₃ end → Left out at (line label n) out₃ end (10 ∷ [])
+      pub end-left : {out₃ : List ℕ} {end : ℕ} → Wrote out₂ number (decimal n) out₃ end → StillToWrite out at (line label n) out₃ end (10 ∷ [])
       end-left u = left-next (decimal n) (10 ∷ []) number-left u

@@ -3,7 +3,7 @@ use Prim.Native.Nat.{ℕ}
 use mathlib.Core.List.{List, _++_}
 use Rattle.report_text.specs.Text.{line, partitionWord, versionWord, userWord, usedWord, liveWord, headLines}
 use Rattle.report_text.specs.Written.{Fits, Wrote}
-use Rattle.report_text.proofs.WrittenLaws.{Left, left-start, left-next}
+use Rattle.report_text.proofs.WrittenLaws.{StillToWrite, left-start, left-next}
 
 module _ (partition edition blocks allocated found : ℕ) where
   abbrev head : List ℕ
@@ -19,21 +19,21 @@ module _ (partition edition blocks allocated found : ℕ) where
   fromVersion = line versionWord edition ++ fromUser
 
   module _ {out : List ℕ} {at : ℕ} (h : Fits out at head) where
-    pub partition-left : Left out at head out at (line partitionWord partition ++ fromVersion)
+    pub partition-left : StillToWrite out at head out at (line partitionWord partition ++ fromVersion)
     unfolding headLines
     partition-left = left-start h
 
     module _ {out₁ : List ℕ} {end₁ : ℕ} (w₁ : Wrote out at (line partitionWord partition) out₁ end₁) where
-      pub version-left : Left out at head out₁ end₁ (line versionWord edition ++ fromUser)
+      pub version-left : StillToWrite out at head out₁ end₁ (line versionWord edition ++ fromUser)
       version-left = left-next (line partitionWord partition) fromVersion partition-left w₁
 
       module _ {out₂ : List ℕ} {end₂ : ℕ} (w₂ : Wrote out₁ end₁ (line versionWord edition) out₂ end₂) where
-        pub user-left : Left out at head out₂ end₂ (line userWord blocks ++ fromUsed)
+        pub user-left : StillToWrite out at head out₂ end₂ (line userWord blocks ++ fromUsed)
         user-left = left-next (line versionWord edition) fromUser version-left w₂
 
         module _ {out₃ : List ℕ} {end₃ : ℕ} (w₃ : Wrote out₂ end₂ (line userWord blocks) out₃ end₃) where
-          pub used-left : Left out at head out₃ end₃ (line usedWord allocated ++ line liveWord found)
+          pub used-left : StillToWrite out at head out₃ end₃ (line usedWord allocated ++ line liveWord found)
           used-left = left-next (line userWord blocks) fromUsed user-left w₃
 
-          pub live-left : {out₄ : List ℕ} {end₄ : ℕ} → Wrote out₃ end₃ (line usedWord allocated) out₄ end₄ → Left out at head out₄ end₄ (line liveWord found)
+          pub live-left : {out₄ : List ℕ} {end₄ : ℕ} → Wrote out₃ end₃ (line usedWord allocated) out₄ end₄ → StillToWrite out at head out₄ end₄ (line liveWord found)
           live-left w₄ = left-next (line usedWord allocated) (line liveWord found) used-left w₄

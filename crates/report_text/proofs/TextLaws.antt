@@ -18,7 +18,7 @@ use Rattle.flash.specs.declared.Summary.{Summary}
 use Rattle.flash.specs.declared.Summary.the-variants.{Counted, Refused}
 use Rattle.report_text.specs.Text.{line, refusedWord, endLine, partitionFor, headLines, blockLines, textFor, reportText}
 use Rattle.report_text.specs.Written.{withText, Fits, Wrote}
-use Rattle.report_text.proofs.WrittenLaws.{Left, left-start, left-next, left-last}
+use Rattle.report_text.proofs.WrittenLaws.{StillToWrite, left-start, left-next, left-last}
 use Rattle.report_text.proofs.RoomLaws.{line-short, text-short}
 
 -- ---- what the report answers
@@ -79,27 +79,27 @@ unfolding reportText
 named-text image partition named = ap (textFor image) named
 
 module _ (out image : List ℕ) (partition : ℕ) (l : length out ≡ 12288) (named : partition ≡ partitionFor (length image)) where
-  report-left : Left out 0 (reportText image) out 0 (textFor image partition)
+  report-left : StillToWrite out 0 (reportText image) out 0 (textFor image partition)
   report-left =
       let low : partition < 10000 = omega (arith, named, partition-low (length image)) in
       rw (sym (named-text image partition named)) (left-start (record { room = omega (arith, l, text-short image partition low) }))
 
   module _ (r : Summary) (a : Answered image (onWhole (report partition)) image (reportAnswer r)) where
-    pub refused-left : {code : ℕ} → r ≡ Refused code → Left out 0 (reportText image) out 0 (line refusedWord code)
+    pub refused-left : {code : ℕ} → r ≡ Refused code → StillToWrite out 0 (reportText image) out 0 (line refusedWord code)
     refused-left is = rw (sym (refused-text image partition r a is)) report-left
 
     module _ {c : Counts} (is : r ≡ Counted c) where
-      pub head-left : Left out 0 (reportText image) out 0 (headOf partition c ++ (blockLines image ++ endLine))
+      pub head-left : StillToWrite out 0 (reportText image) out 0 (headOf partition c ++ (blockLines image ++ endLine))
       head-left = rw (sym (counted-text image partition r a is)) report-left
 
       module _ {out₁ : List ℕ} {end₁ : ℕ} (w₁ : Wrote out 0 (headOf partition c) out₁ end₁) where
-        pub blocks-left : Left out 0 (reportText image) out₁ end₁ (blockLines image ++ endLine)
+        pub blocks-left : StillToWrite out 0 (reportText image) out₁ end₁ (blockLines image ++ endLine)
         blocks-left = left-next (headOf partition c) (blockLines image ++ endLine) head-left w₁
 
-        pub end-left : {out₂ : List ℕ} {end₂ : ℕ} → Wrote out₁ end₁ (blockLines image) out₂ end₂ → Left out 0 (reportText image) out₂ end₂ endLine
+        pub end-left : {out₂ : List ℕ} {end₂ : ℕ} → Wrote out₁ end₁ (blockLines image) out₂ end₂ → StillToWrite out 0 (reportText image) out₂ end₂ endLine
         end-left w₂ = left-next (blockLines image) endLine blocks-left w₂
 
-pub report-written : {out : List ℕ} (image : List ℕ) {out₁ out₂ : List ℕ} {end₁ end₂ : ℕ} (rest : List ℕ) → Left out 0 (reportText image) out₁ end₁ rest → Wrote out₁ end₁ rest out₂ end₂
+pub report-written : {out : List ℕ} (image : List ℕ) {out₁ out₂ : List ℕ} {end₁ end₂ : ℕ} (rest : List ℕ) → StillToWrite out 0 (reportText image) out₁ end₁ rest → Wrote out₁ end₁ rest out₂ end₂
     → (end₂ ≡ length (reportText image)) × (out₂ ≡ reportText image ++ drop end₂ out)
 report-written image rest left w = from-start (reportText image) (left-last rest left w)
 

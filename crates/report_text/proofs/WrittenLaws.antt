@@ -42,21 +42,21 @@ module _ (out : List ℕ) (at : ℕ) where
 -- ---- pieces, one behind the other
 
 -- `rest` is still to be written at `end`, and then the whole text has been written at `at` in `first`.
-pub record Left (first : List ℕ) (at : ℕ) (whole out : List ℕ) (end : ℕ) (rest : List ℕ) : Type 0 where
+pub record StillToWrite (first : List ℕ) (at : ℕ) (whole out : List ℕ) (end : ℕ) (rest : List ℕ) : Type 0 where
   pub fits : Fits out end rest
   pub same-length : length out ≡ length first
   pub same-end : end + length rest ≡ at + length whole
   pub same-text : withText out end rest ≡ withText first at whole
 
-pub left-start : {out : List ℕ} {at : ℕ} {whole : List ℕ} → Fits out at whole → Left out at whole out at whole
+pub left-start : {out : List ℕ} {at : ℕ} {whole : List ℕ} → Fits out at whole → StillToWrite out at whole out at whole
 left-start h = record { fits = h; same-length = refl; same-end = refl; same-text = refl }
 
 module _ {first : List ℕ} {at : ℕ} {whole out : List ℕ} {end : ℕ} where
-  pub left-room : (s t : List ℕ) → Left first at whole out end (s ++ t) → Fits out end s
+  pub left-room : (s t : List ℕ) → StillToWrite first at whole out end (s ++ t) → Fits out end s
   left-room s t l = record { room = omega (arith, l .fits .room, length-append s t) }
 
   module _ {out′ : List ℕ} {end′ : ℕ} where
-    pub left-next : (s t : List ℕ) → Left first at whole out end (s ++ t) → Wrote out end s out′ end′ → Left first at whole out′ end′ t
+    pub left-next : (s t : List ℕ) → StillToWrite first at whole out end (s ++ t) → Wrote out end s out′ end′ → StillToWrite first at whole out′ end′ t
     left-next s t l w =
         let h = left-room s t l in
         let k : length out′ ≡ length out = ap length (w .holds) ∙ length-written out end s h in
@@ -67,10 +67,10 @@ module _ {first : List ℕ} {at : ℕ} {whole out : List ℕ} {end : ℕ} where
           same-text = rw (w .holds, w .ends) (written-then out end s t h ∙ l .same-text);
         }
 
-    pub left-last : (s : List ℕ) → Left first at whole out end s → Wrote out end s out′ end′ → Wrote first at whole out′ end′
+    pub left-last : (s : List ℕ) → StillToWrite first at whole out end s → Wrote out end s out′ end′ → Wrote first at whole out′ end′
     left-last s l w = record { ends = w .ends ∙ l .same-end; holds = w .holds ∙ l .same-text }
 
-  pub left-nothing : Left first at whole out end [] → Wrote first at whole out end
+  pub left-nothing : StillToWrite first at whole out end [] → Wrote first at whole out end
   left-nothing l = record { ends = omega (arith, l .same-end); holds = sym (written-nil out end) ∙ l .same-text }
 
 -- ---- what code writes

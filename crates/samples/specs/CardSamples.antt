@@ -61,7 +61,7 @@ linked [] table = table
 linked (b ∷ []) table = set table b 0xFFFA
 linked (b ∷ n ∷ blocks) table = linked (n ∷ blocks) (set table b n)
 
--- Blocks 0, 1, 2 and on in one chain, k of them before its last, and so many others free.
+-- Blocks 0, 1, 2 and on in one chain, k of them before its last, and `others` more free.
 abbrev pub risingTable : ℕ → ℕ → List ℕ
 risingTable k others = numbersFrom 1 k ++ (0xFFFA ∷ replicate others 0xFFFC ++ systemTable)
 

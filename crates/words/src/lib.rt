@@ -30,8 +30,7 @@ pub fn put_word(part: &mut [u8], n: usize)
     part[1] = (n / 256 % 256) as u8;
 }
 
-// Whether two runs have the same length and the same bytes. The loop has no way out, so that it is compiled to steps of several
-// bytes.
+// Whether two runs have the same length and the same bytes. The loop has no early exit: several bytes go in one step.
 pub fn same(a: &[u8], b: &[u8]) -> bool
     ensures { λ r. ⌜ r ≡ bytes.sameBytes (now (a .entry)) (now (b .entry)) ⌝ }
 {
@@ -58,8 +57,7 @@ pub fn fill(part: &mut [u8], value: u8)
     }
 }
 
-// Copies the 60 bytes of a page. They go by an array: the compiler then knows that the two places don't overlap, and moves 16
-// bytes at a time.
+// Copies the 60 bytes of a page, by way of an array that overlaps neither place.
 pub fn copy_page(page: &[u8], to: &mut [u8])
     requires { ⌜ (length (now page) ≡ 60) × (length (now to) ≡ 60) ⌝ }
     ensures { λ _. ⌜ now (to .exit) ≡ now (page .entry) ⌝ }

@@ -1,5 +1,4 @@
-// Several bytes of a run as one number. The expressions are flat because the compiler makes one load of that shape, with a byte
-// swap where it is big endian, and of no loop.
+// Several bytes of a run as one number, in flat expressions: each is one load.
 ghost use mathlib.Core.Path.{_≡_};
 ghost use Prim.Native.Nat.{_+_, _<_, _≤_};
 ghost use lib.ListN.{length};

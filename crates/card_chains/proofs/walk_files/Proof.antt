@@ -1,5 +1,5 @@
 -- `walk_files` meets its contract. The loop's invariant: the marks are lengths of chains, no chain of the files that were passed is
--- bad, the first of them that shares a block is remembered, and until there is one their blocks are marked. Assumes nothing.
+-- bad, the first of them that shares a block is kept, and until there is one their blocks are marked. Assumes nothing.
 use Prim.Native.Nat.{ℕ, _+_, _-_, _≤_, _<_}
 use mathlib.Core.Path.{_≡_, refl, sym, ap, _∙_}
 use mathlib.Core.Logic.{_⊎_, inl, inr, ⊎-elim}
@@ -62,11 +62,11 @@ module _ (card : List ℕ) where
     unfolding chainRow firstFrom sharingRow firstBefore
     neither-refused e = rw (sound, e)
 
--- what is remembered after a file: the first that shares, this one or an earlier one
-remembered : (r first i : ℕ) (shared : Bool) → ((shared ≡ true) × (r ≡ cond (ltb first 208) first i)) ⊎ ((shared ≡ false) × (r ≡ first))
+-- what is kept after a file: the first that shares, this one or an earlier one
+kept-earlier : (r first i : ℕ) (shared : Bool) → ((shared ≡ true) × (r ≡ cond (ltb first 208) first i)) ⊎ ((shared ≡ false) × (r ≡ first))
     → r ≡ cond (ltb first 208) first (cond shared i first)
-remembered r first i shared (inl t) = rw (t .0) (t .1)
-remembered r first i shared (inr t) = rw (t .0) (t .1 ∙ go (ltb first 208))
+kept-earlier r first i shared (inl t) = rw (t .0) (t .1)
+kept-earlier r first i shared (inr t) = rw (t .0) (t .1 ∙ go (ltb first 208))
   where
     go : (s : Bool) → first ≡ cond s first first
     go true = refl
@@ -164,7 +164,7 @@ loop-again c =
     let good = sym (walk-broken _ _ _ u walked) ∙ sound in
     let m = rw (stays _ (files (card l)) (files-stay _ _) (list l) j i (is-entry s) h) at (l .loop .inv .4) in
     let before = l .loop .inv .3 ∙ ap (orEnd 208) (stays _ (firstBefore (shares (card l))) (λ k q. before-same _ k (unused-shares _ _ k q)) (list l) j i (is-entry s) h) in
-    let f = remembered (c .if2 .first) first i (isShared (w .walk-file .result))
+    let f = kept-earlier (c .if2 .first) first i (isShared (w .walk-file .result))
     (⊎-elim (λ x. inl (sym (d .is-shared .ensures) ∙ x .0 .taken, x .2 ∙ x .1 .ensures)) (λ x. inr (sym (d .is-shared .ensures) ∙ x .0 .left, x .1)) (c .if2 .came)) in
     let b = listed-below (list l) j i (is-entry s) h in
     let on = reached-next _ j i (is-entry s) in (

@@ -5,13 +5,13 @@ use lib.ListN.{length}
 use Rattle.flash_model.specs.Measures.{capacity}
 use Rattle.report_text.specs.Text.{blockLines}
 use Rattle.report_text.proofs.BlockLaws.{linesFrom, lines-all, number-low, number-left, none-left}
-use Rattle.report_text.proofs.WrittenLaws.{Left, left-start, left-room, left-next}
+use Rattle.report_text.proofs.WrittenLaws.{StillToWrite, left-start, left-room, left-next}
 use borrow.Author.Needs.{needs}
 use Rattle.report_text.proofs.put_blocks.Statement.{statement}
 use Rattle.report_text.proofs.put_blocks.Tie as tie
 
 abbrev Inv-loop : tie.InvT-loop
-Inv-loop out₀ at image partition end₀ from₀ t8 out end from = Left out₀ at (blockLines image) out end (linesFrom image from)
+Inv-loop out₀ at image partition end₀ from₀ t8 out end from = StillToWrite out₀ at (blockLines image) out end (linesFrom image from)
 
 abbrev μ-loop : tie.MeasureT-loop
 μ-loop out₀ at image partition end₀ from₀ t8 out end from = capacity (length image) - from
