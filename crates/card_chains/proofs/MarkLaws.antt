@@ -126,7 +126,7 @@ unfoldable pub countFrom : (ℕ → Bool) → ℕ → ℕ → ℕ
 countFrom p k e = length (keep p (numbersFrom k (e - k)))
 
 module _ (p : ℕ → Bool) (k e : ℕ) where
-  pub count-step : k < e → countFrom p k e ≡ cond (p k) 1 0 + countFrom p (k + 1) e
+  count-step : k < e → countFrom p k e ≡ cond (p k) 1 0 + countFrom p (k + 1) e
   unfolding countFrom
   count-step h = ap (λ (l : List ℕ). length (keep p l)) (numbers-next p k e h) ∙ go (p k) (keep p (numbersFrom (k + 1) (e - (k + 1))))
     where
@@ -134,13 +134,33 @@ module _ (p : ℕ → Bool) (k e : ℕ) where
       go true l = omega arith
       go false l = omega arith
 
-  pub count-end : e ≤ k → countFrom p k e ≡ 0
+  count-end : e ≤ k → countFrom p k e ≡ 0
   unfolding countFrom
   count-end h = ap (λ (l : List ℕ). length (keep p l)) (numbers-end p k e h)
 
-pub count-all : (p : ℕ → Bool) → countFrom p 0 200 ≡ countTo p 200
+-- a loop that counts: those counted of the first b blocks and those still to come are all
+pub record Counting (p : ℕ → Bool) (count b : ℕ) : Type 0 where
+  pub within : b ≤ 200
+  pub small : count ≤ b
+  pub together : count + countFrom p b 200 ≡ countTo p 200
+
+count-all : (p : ℕ → Bool) → countFrom p 0 200 ≡ countTo p 200
 unfolding countFrom countTo
 count-all p = refl
+
+pub counting-start : (p : ℕ → Bool) → Counting p 0 0
+counting-start p = record { within = omega arith; small = omega arith; together = omega (arith, count-all p) }
+
+module _ {p : ℕ → Bool} {count b : ℕ} (c : Counting p count b) where
+  pub counting-next : {k : ℕ} → b < 200 → (k ≡ cond (p b) 1 0) × (k ≤ 1) → Counting p (count + k) (b + 1)
+  counting-next {k} h e = record {
+    within = omega (arith, h);
+    small = omega (arith, e .1, c .small);
+    together = omega (arith, count-step p b 200 h, e .0, c .together);
+  }
+
+  pub counting-end : 200 ≤ b → count ≡ countTo p 200
+  counting-end h = omega (arith, c .together, count-end p b 200 h)
 
 -- ---- orphans
 
