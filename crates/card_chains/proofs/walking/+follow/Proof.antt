@@ -39,36 +39,12 @@ module _ (t : ℕ) where
   returns : follow-lts.Need-returns (calls t) (follow-at t) follow.Post
   returns c = (after-none _ _ _ (c .if1 .taken), search needs)
 
-  entry-in-requires : follow-lts.Need-entry-in-requires (calls t) (follow-at t) follow.Post
-  entry-in-requires c κs = search needs
-
-  classify-requires : follow-lts.Need-classify-requires (calls t) (follow-at t) follow.Post
-  classify-requires c κs = search needs
-
-  enum-known-n : follow-lts.Need-enum-known-n (calls t) (follow-at t) follow.Post
-  enum-known-n c = search needs
-
-  sub-follow : follow-lts.Need-sub-follow (calls t) (follow-at t) follow.Post
-  sub-follow c = search needs
-
   follow-requires : follow-lts.Need-follow-requires (calls t) (follow-at t) follow.Post
   follow-requires c κs =
       let n = c .before in
       let k = n .before .before in
       let link = link-read _ _ (k .before .entry-in .ensures .0) (k .classify .ensures) in
       (omega arith, step-below _ _ _ (sym link ∙ n .n .given .1))
-
-  enum-told : follow-lts.Need-enum-told (calls t) (follow-at t) follow.Post
-  enum-told c = search needs
-
-  enum-told-2 : follow-lts.Need-enum-told-2 (calls t) (follow-at t) follow.Post
-  enum-told-2 c = search needs
-
-  enum-told-3 : follow-lts.Need-enum-told-3 (calls t) (follow-at t) follow.Post
-  enum-told-3 c = search needs
-
-  enum-told-4 : follow-lts.Need-enum-told-4 (calls t) (follow-at t) follow.Post
-  enum-told-4 c = search needs
 
   returns-2 : follow-lts.Need-returns-2 (calls t) (follow-at t) follow.Post
   returns-2 c =
@@ -109,15 +85,15 @@ module _ (t : ℕ) where
 pub +follow-spec : {M : Type 1} → statement M
 +follow-spec = close μ-follow λ t. follow-lts.spec (calls t) (follow-at t) follow.Post
     (returns t)
-    (entry-in-requires t)
-    (classify-requires t)
-    (enum-known-n t)
-    (sub-follow t)
+    (λ c κs. search needs)
+    (λ c κs. search needs)
+    (λ c. search needs)
+    (λ c. search needs)
     (follow-requires t)
-    (enum-told t)
-    (enum-told-2 t)
-    (enum-told-3 t)
-    (enum-told-4 t)
+    (λ c. search needs)
+    (λ c. search needs)
+    (λ c. search needs)
+    (λ c. search needs)
     (returns-2 t)
     (returns-3 t)
     (returns-4 t)

@@ -42,39 +42,9 @@ module _ (t : ℕ) where
   returns : walk-lts.Need-returns (calls t) (walk-at t) walk.Post
   returns c = walked-broken _ _ _ (chain-none _ _ _ (c .if1 .taken))
 
-  element-copy-out-mark : walk-lts.Need-element-copy-out-mark (calls t) (walk-at t) walk.Post
-  element-copy-out-mark c = search needs
-
-  cast-own : walk-lts.Need-cast-own (calls t) (walk-at t) walk.Post
-  cast-own c = search needs
-
-  ended-requires : walk-lts.Need-ended-requires (calls t) (walk-at t) walk.Post
-  ended-requires c κs = search needs
-
   returns-2 : walk-lts.Need-returns-2 (calls t) (walk-at t) walk.Post
   returns-2 c =
       walked-met _ _ _ _ (c .before .before .before .before .pre .1 .1) refl (c .before .if2 .taken) (c .ended .ensures)
-
-  element-write-marks : walk-lts.Need-element-write-marks (calls t) (walk-at t) walk.Post
-  element-write-marks c = search needs
-
-  entry-in-requires : walk-lts.Need-entry-in-requires (calls t) (walk-at t) walk.Post
-  entry-in-requires c κs = search needs
-
-  classify-requires : walk-lts.Need-classify-requires (calls t) (walk-at t) walk.Post
-  classify-requires c κs = search needs
-
-  enum-told : walk-lts.Need-enum-told (calls t) (walk-at t) walk.Post
-  enum-told c = search needs
-
-  ended-requires-2 : walk-lts.Need-ended-requires-2 (calls t) (walk-at t) walk.Post
-  ended-requires-2 c κs = search needs
-
-  enum-known-n : walk-lts.Need-enum-known-n (calls t) (walk-at t) walk.Post
-  enum-known-n c = search needs
-
-  sub-walk : walk-lts.Need-sub-walk (calls t) (walk-at t) walk.Post
-  sub-walk c = search needs
 
   walk-requires : walk-lts.Need-walk-requires (calls t) (walk-at t) walk.Post
   walk-requires c κs =
@@ -85,15 +55,6 @@ module _ (t : ℕ) where
       let s = d .before in
       let told = sym (link-read _ _ (l .entry-in .ensures .0) (k .classify .ensures)) ∙ n .n .given .1 in
       (omega arith, next-asked _ _ _ _ (s .pre .1 .1) (d .if1 .left) (s .pre .1 .0 .0) (l .before .if2 .left) _ told (s .pre .1 .0 .1))
-
-  enum-told-2 : walk-lts.Need-enum-told-2 (calls t) (walk-at t) walk.Post
-  enum-told-2 c = search needs
-
-  enum-told-3 : walk-lts.Need-enum-told-3 (calls t) (walk-at t) walk.Post
-  enum-told-3 c = search needs
-
-  enum-told-4 : walk-lts.Need-enum-told-4 (calls t) (walk-at t) walk.Post
-  enum-told-4 c = search needs
 
   returns-3 : walk-lts.Need-returns-3 (calls t) (walk-at t) walk.Post
   unfolding chainStep
@@ -142,21 +103,21 @@ module _ (t : ℕ) where
 pub +walk-spec : {M : Type 1} → statement M
 +walk-spec = close μ-walk λ t. walk-lts.spec (calls t) (walk-at t) walk.Post
     (returns t)
-    (element-copy-out-mark t)
-    (cast-own t)
-    (ended-requires t)
+    (λ c. search needs)
+    (λ c. search needs)
+    (λ c κs. search needs)
     (returns-2 t)
-    (element-write-marks t)
-    (entry-in-requires t)
-    (classify-requires t)
-    (enum-told t)
-    (ended-requires-2 t)
-    (enum-known-n t)
-    (sub-walk t)
+    (λ c. search needs)
+    (λ c κs. search needs)
+    (λ c κs. search needs)
+    (λ c. search needs)
+    (λ c κs. search needs)
+    (λ c. search needs)
+    (λ c. search needs)
     (walk-requires t)
-    (enum-told-2 t)
-    (enum-told-3 t)
-    (enum-told-4 t)
+    (λ c. search needs)
+    (λ c. search needs)
+    (λ c. search needs)
     (returns-3 t)
     (returns-4 t)
     (returns-5 t)

@@ -28,17 +28,8 @@ abbrev calls : ℕ → put-decimal-lts.Claims
 calls t = (put-byte-reads.Asked, put-byte-reads.Learnt, put-decimal-below t, put-decimal.Post)
 
 module _ (t : ℕ) where
-  add-last : put-decimal-lts.Need-add-last (calls t) (put-decimal-at t) put-decimal.Post
-  add-last c = search needs
-
-  cast-last : put-decimal-lts.Need-cast-last (calls t) (put-decimal-at t) put-decimal.Post
-  cast-last c = search needs
-
   put-byte-requires : put-decimal-lts.Need-put-byte-requires (calls t) (put-decimal-at t) put-decimal.Post
   put-byte-requires c κs = let s = c .before .before .before in digit-fits (s .args .n) (s .pre .1) (c .before .if1 .taken)
-
-  same-length : put-decimal-lts.Need-same-length (calls t) (put-decimal-at t) put-decimal.Post
-  same-length c = search needs
 
   returns : put-decimal-lts.Need-returns (calls t) (put-decimal-at t) put-decimal.Post
   returns c =
@@ -57,9 +48,6 @@ module _ (t : ℕ) where
       let s = d .before .before .before .before in
       front-left (s .args .n) (s .pre .1) (d .before .before .if1 .left) (d .put-decimal .ensures) .fits
 
-  same-length-2 : put-decimal-lts.Need-same-length-2 (calls t) (put-decimal-at t) put-decimal.Post
-  same-length-2 c = search needs
-
   returns-2 : put-decimal-lts.Need-returns-2 (calls t) (put-decimal-at t) put-decimal.Post
   returns-2 c =
       let d = c .before .before .before .before .before .before in
@@ -70,12 +58,12 @@ pub +put-decimal-spec : {M : Type 1} → statement M
 +put-decimal-spec = close μ-put-decimal λ t. put-decimal-lts.spec (calls t)
     (put-decimal-at t)
     put-decimal.Post
-    (add-last t)
-    (cast-last t)
+    (λ c. search needs)
+    (λ c. search needs)
     (put-byte-requires t)
-    (same-length t)
+    (λ c. search needs)
     (returns t)
     (put-decimal-requires t)
     (put-byte-requires-2 t)
-    (same-length-2 t)
+    (λ c. search needs)
     (returns-2 t)
