@@ -1,6 +1,6 @@
 -- What the calls answer once the verdict v of the check is known. Assumes nothing.
 use Prim.Native.Nat.{ℕ, _<_, _-_}
-use mathlib.Core.Path.{_≡_, _∙_}
+use mathlib.Core.Path.{_≡_, refl, _∙_}
 use mathlib.Core.List.{List, _++_}
 use mathlib.Core.Option.{Option, some}
 use native.Mathlib.Omega.{arith}
@@ -14,6 +14,12 @@ use Rattle.card_model.specs.Layout.{tableOf, directoryOf}
 use Rattle.card_model.specs.Entries.{nameOf, timeOf}
 use Rattle.card_model.specs.Files as files
 use Rattle.card_model.specs.Calls.{verdictOf, checkOf, notChecked, notListed, firstUsed, listedFrom, listOf, entryNamed, readRows, readVerdict, leftBy, readBuffer}
+use Rattle.card_chains.specs.Marks.{noMarks}
+
+-- the two arrays that a call lends to the opening
+pub new-arrays : (length {A = ℕ} (replicate 208 0) ≡ 208) × (replicate 200 0 ≡ noMarks)
+unfolding noMarks
+new-arrays = (refl, refl)
 
 module _ (card : List ℕ) (v : Verdict) (e : v ≡ verdictOf card) where
   pub check-refused : (v .number ≡ 0 → ⊥) → notChecked v ≡ checkOf card

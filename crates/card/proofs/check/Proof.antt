@@ -1,10 +1,9 @@
 -- `check` meets its contract. Assumes nothing.
-use mathlib.Core.Path.{refl, _∙_}
+use mathlib.Core.Path.{_∙_}
 use mathlib.Core.List.{List}
 use Prim.Native.Nat.{ℕ}
 use borrow.Author.Tests.{eq-eqb}
-use Rattle.card_chains.specs.Marks.{noMarks}
-use Rattle.card.proofs.AnswerLaws.{check-refused, check-passed}
+use Rattle.card.proofs.AnswerLaws.{new-arrays, check-refused, check-passed}
 use borrow.Author.Needs.{needs}
 use Rattle.card.proofs.check.Statement.{statement}
 use Rattle.card.proofs.check.Tie as tie
@@ -14,10 +13,6 @@ opened c = c .before .before
 
 abbrev card : tie.After-open → List ℕ
 card c = c .before .before .before .before .args .card .now
-
-open-requires : tie.Need-open-requires
-unfolding noMarks
-open-requires c κs = (refl, refl)
 
 returns : tie.Need-returns
 returns c =
@@ -38,4 +33,4 @@ returns-2 c =
     check-passed (card o) _ (o .«open» .ensures .0) (d .if1 .left) _ (c .count-orphans .ensures)
 
 pub check-spec : {M : Type 1} → statement M
-check-spec = tie.close (tie.spec open-requires (λ c κs. search needs) returns count-orphans-requires returns-2)
+check-spec = tie.close (tie.spec (λ c κs. new-arrays) (λ c κs. search needs) returns count-orphans-requires returns-2)

@@ -1,14 +1,13 @@
 -- `list` meets its contract. Assumes nothing.
-use mathlib.Core.Path.{refl, sym, ap, _∙_}
+use mathlib.Core.Path.{sym, ap, _∙_}
 use mathlib.Core.List.{List}
 use Prim.Native.Nat.{ℕ}
 use borrow.Author.Tests.{eq-eqb}
 use Rattle.card_model.specs.Layout.{directoryOf}
 use Rattle.card_model.specs.Calls.{notListed, listedEntry}
 use Rattle.card_directory.proofs.DirectoryLaws.{found-some, found-none}
-use Rattle.card_chains.specs.Marks.{noMarks}
 use Rattle.card_check.specs.Opening.{OpenCard}
-use Rattle.card.proofs.AnswerLaws.{list-refused, list-passed, used-below}
+use Rattle.card.proofs.AnswerLaws.{new-arrays, list-refused, list-passed, used-below}
 use borrow.Author.Needs.{needs}
 use Rattle.card.proofs.list.Statement.{statement}
 use Rattle.card.proofs.list.Tie as tie
@@ -35,10 +34,6 @@ used c = opened c .«open» .last .1 .0
 
 is-open : (c : tie.Else1) → OpenCard (card c) (used c) (opened c .«open» .result .count) (opened c .«open» .last .1 .1 .0)
 is-open c = opened c .«open» .ensures .1 (eq-eqb _ _ (c .if1 .left))
-
-open-requires : tie.Need-open-requires
-unfolding noMarks
-open-requires c κs = (refl, refl)
 
 returns : tie.Need-returns
 returns c =
@@ -76,7 +71,7 @@ pub list-spec : {M : Type 1} → statement M
 list-spec =
     tie.close
     (tie.spec
-    open-requires
+    (λ c κs. new-arrays)
     (λ c κs. search needs)
     returns
     first-used-requires

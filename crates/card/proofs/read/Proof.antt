@@ -1,6 +1,6 @@
 -- `read` meets its contract: each `return` is a row of the table. Assumes nothing.
 use Prim.Native.Nat.{ℕ}
-use mathlib.Core.Path.{_≡_, refl, sym, _∙_}
+use mathlib.Core.Path.{_≡_, sym, _∙_}
 use mathlib.Core.List.{List}
 use mathlib.Core.Option.{some}
 use borrow.Author.Tests.{eq-eqb}
@@ -8,9 +8,8 @@ use Rattle.verdicts.specs.declared.Verdict.{Verdict}
 use Rattle.card_model.specs.Layout.{directoryOf}
 use Rattle.card_model.specs.Calls.{entryNamed, readVerdict, readBuffer}
 use Rattle.card_directory.proofs.DirectoryLaws.{found-some, found-none}
-use Rattle.card_chains.specs.Marks.{noMarks}
 use Rattle.card_check.specs.Opening.{OpenCard}
-use Rattle.card.proofs.AnswerLaws.{read-refused, read-passed}
+use Rattle.card.proofs.AnswerLaws.{new-arrays, read-refused, read-passed}
 use Rattle.card.proofs.ReadLaws.{ReadAs, named-used, wrong-name, wrong-block, no-file, of-entry}
 use borrow.Author.Needs.{needs}
 use Rattle.card.proofs.read.Statement.{statement}
@@ -49,10 +48,6 @@ is-open c = opened c .«open» .ensures .1 (eq-eqb _ _ (c .if1 .left))
 answered : (c : tie.Else1) {r : Verdict} {left : List ℕ} → ReadAs (card c) (name c) (index c) (buffer c) r left
     → (r ≡ readVerdict (card c) (name c) (index c) (buffer c)) × (left ≡ readBuffer (card c) (name c) (index c) (buffer c))
 answered c a = read-passed (card c) _ (opened c .«open» .ensures .0) (name c) (index c) (buffer c) (c .if1 .left) _ (a .verdict-is) _ (a .buffer-is)
-
-open-requires : tie.Need-open-requires
-unfolding noMarks
-open-requires c κs = (refl, refl)
 
 returns : tie.Need-returns
 returns c =
@@ -103,7 +98,7 @@ pub read-spec : {M : Type 1} → statement M
 read-spec =
     tie.close
     (tie.spec
-    open-requires
+    (λ c κs. new-arrays)
     returns
     (λ c κs. search needs)
     returns-2
