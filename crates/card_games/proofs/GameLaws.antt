@@ -1,12 +1,12 @@
 -- A chain that is followed block by block, and the game rule. Assumes nothing.
 use Prim.Native.Nat.{ℕ, zero, suc, _+_, _-_, _≤_, _<_}
-use mathlib.Core.Path.{_≡_, refl}
-use mathlib.Core.Bool.{true, false, not, _&&_, _||_, false≢true, true≢false}
+use mathlib.Core.Path.{_≡_, refl, sym, _∙_}
+use mathlib.Core.Bool.{true, false, not, _&&_, _||_, or-true, or-false, false≢true, true≢false}
 use mathlib.Core.List.{List, _∷_}
 use mathlib.Core.Option.{Option, none, some, Option·map}
 use native.Mathlib.Omega.{arith}
 use native.Mathlib.Numerals.{sub-one}
-use borrow.Author.Tests.{eqb-true, ne-eqb}
+use borrow.Author.Tests.{eqb-true, eq-eqb, ne-eqb, lt-ltb, le-ltb}
 use lib.Dec.{eqb, ltb}
 use Rattle.words.specs.Lists.{anyOf, isSome, numbersFrom}
 use Rattle.card_model.specs.declared.Link.{Link}
@@ -81,8 +81,27 @@ pub unused-game : (table : List ℕ) (directory : List (List ℕ)) (i : ℕ) →
 unfolding breaksGameRule
 unused-game table directory i u = rw (no-game (entryAt directory i) u)
 
--- the rule of the entry that stands in a part s of the card
-pub game-rule : (directory : List (List ℕ)) (i : ℕ) (s : List ℕ) → s ≡ entryAt directory i → (table : List ℕ) → breaksGameRule table directory i
-    ≡ (isGame s && (anyOf (λ j. isGame (entryAt directory j)) (numbersFrom 0 i) || (not (eqb (firstBlock s) 0) || (not (rising (fileOf table s)) || ltb 128 (size s)))))
-unfolding breaksGameRule
-game-rule directory i s e table = rw (← e)
+-- the rule of the entry that stands in a part s of the card, clause by clause
+module _ (directory : List (List ℕ)) (i : ℕ) {s : List ℕ} (e : s ≡ entryAt directory i) (table : List ℕ) where
+  rule : breaksGameRule table directory i
+      ≡ (isGame s && (anyOf (λ j. isGame (entryAt directory j)) (numbersFrom 0 i) || (not (eqb (firstBlock s) 0) || (not (rising (fileOf table s)) || ltb 128 (size s)))))
+  unfolding breaksGameRule
+  rule = rw (← e)
+
+  pub not-game : isGame s ≡ false → false ≡ breaksGameRule table directory i
+  not-game g = sym (rule ∙ rw g)
+
+  module _ (g : isGame s ≡ true) where
+    pub later-game : anyOf (λ j. isGame (entryAt directory j)) (numbersFrom 0 i) ≡ true → true ≡ breaksGameRule table directory i
+    later-game a = sym (rule ∙ rw (g, a))
+
+    module _ (a : anyOf (λ j. isGame (entryAt directory j)) (numbersFrom 0 i) ≡ false) where
+      pub first-not-0 : (firstBlock s ≡ 0 → ⊥) → true ≡ breaksGameRule table directory i
+      first-not-0 n = sym (rule ∙ rw (g, a, ne-eqb (firstBlock s) 0 n))
+
+      module _ (z : firstBlock s ≡ 0) where
+        pub too-large : 128 < size s → true ≡ breaksGameRule table directory i
+        too-large h = sym (rule ∙ rw (g, a, eq-eqb (firstBlock s) 0 z, lt-ltb 128 (size s) h, or-true))
+
+        pub else-rising : size s ≤ 128 → not (rising (fileOf table s)) ≡ breaksGameRule table directory i
+        else-rising h = sym (rule ∙ rw (g, a, eq-eqb (firstBlock s) 0 z, le-ltb 128 (size s) h, or-false))

@@ -50,21 +50,7 @@ module _ {out : List ℕ} {at : ℕ} (n : ℕ) (h : Fits out at (decimal n)) whe
   pub front-left : {out′ : List ℕ} {end : ℕ} → 10 ≤ n → Wrote out at (decimal (n / 10)) out′ end → StillToWrite out at (decimal n) out′ end (digit (n % 10) ∷ [])
   front-left more w = left-next (decimal (n / 10)) (digit (n % 10) ∷ []) (digits-left more) w
 
-module _ {out : List ℕ} {at : ℕ} (label : List ℕ) (n : ℕ) (h : Fits out at (line label n)) where
-  line-left : StillToWrite out at (line label n) out at (label ++ (32 ∷ (decimal n ++ 10 ∷ [])))
-  unfolding line
-  line-left = left-start h
-
-  pub label-fits : Fits out at label
-  label-fits = left-room label (32 ∷ (decimal n ++ 10 ∷ [])) line-left
-
-  module _ {out₁ : List ℕ} {blank : ℕ} (w : Wrote out at label out₁ blank) where
-    pub blank-left : StillToWrite out at (line label n) out₁ blank (32 ∷ (decimal n ++ 10 ∷ []))
-    blank-left = left-next label (32 ∷ (decimal n ++ 10 ∷ [])) line-left w
-
-    module _ {out₂ : List ℕ} {number : ℕ} (v : Wrote out₁ blank (32 ∷ []) out₂ number) where
-      pub number-left : StillToWrite out at (line label n) out₂ number (decimal n ++ 10 ∷ [])
-      number-left = left-next (32 ∷ []) (decimal n ++ 10 ∷ []) blank-left v
-
-      pub end-left : {out₃ : List ℕ} {end : ℕ} → Wrote out₂ number (decimal n) out₃ end → StillToWrite out at (line label n) out₃ end (10 ∷ [])
-      end-left u = left-next (decimal n) (10 ∷ []) number-left u
+pub line-left : {out : List ℕ} {at : ℕ} (label : List ℕ) (n : ℕ) → Fits out at (line label n)
+    → StillToWrite out at (line label n) out at (label ++ (32 ∷ (decimal n ++ 10 ∷ [])))
+unfolding line
+line-left label n h = left-start h

@@ -18,7 +18,7 @@ use Rattle.flash.specs.declared.Summary.{Summary}
 use Rattle.flash.specs.declared.Summary.the-variants.{Counted, Refused}
 use Rattle.report_text.specs.Text.{line, refusedWord, endLine, partitionFor, headLines, blockLines, textFor, reportText}
 use Rattle.report_text.specs.Written.{withText, Fits, Wrote}
-use Rattle.report_text.proofs.WrittenLaws.{StillToWrite, left-start, left-next, left-last}
+use Rattle.report_text.proofs.WrittenLaws.{StillToWrite, left-start, left-last}
 use Rattle.report_text.proofs.RoomLaws.{line-short, text-short}
 
 -- ---- what the report answers
@@ -88,16 +88,8 @@ module _ (out image : List ℕ) (partition : ℕ) (l : length out ≡ 12288) (na
     pub refused-left : {code : ℕ} → r ≡ Refused code → StillToWrite out 0 (reportText image) out 0 (line refusedWord code)
     refused-left is = rw (sym (refused-text image partition r a is)) report-left
 
-    module _ {c : Counts} (is : r ≡ Counted c) where
-      pub head-left : StillToWrite out 0 (reportText image) out 0 (headOf partition c ++ (blockLines image ++ endLine))
-      head-left = rw (sym (counted-text image partition r a is)) report-left
-
-      module _ {out₁ : List ℕ} {end₁ : ℕ} (w₁ : Wrote out 0 (headOf partition c) out₁ end₁) where
-        pub blocks-left : StillToWrite out 0 (reportText image) out₁ end₁ (blockLines image ++ endLine)
-        blocks-left = left-next (headOf partition c) (blockLines image ++ endLine) head-left w₁
-
-        pub end-left : {out₂ : List ℕ} {end₂ : ℕ} → Wrote out₁ end₁ (blockLines image) out₂ end₂ → StillToWrite out 0 (reportText image) out₂ end₂ endLine
-        end-left w₂ = left-next (blockLines image) endLine blocks-left w₂
+    pub counted-left : {c : Counts} → r ≡ Counted c → StillToWrite out 0 (reportText image) out 0 (headOf partition c ++ (blockLines image ++ endLine))
+    counted-left is = rw (sym (counted-text image partition r a is)) report-left
 
 pub report-written : {out : List ℕ} (image : List ℕ) {out₁ out₂ : List ℕ} {end₁ end₂ : ℕ} (rest : List ℕ) → StillToWrite out 0 (reportText image) out₁ end₁ rest → Wrote out₁ end₁ rest out₂ end₂
     → (end₂ ≡ length (reportText image)) × (out₂ ≡ reportText image ++ drop end₂ out)

@@ -97,17 +97,20 @@ used l = start l .args .used .now
 abbrev list : (l : tie.At-loop Inv-loop μ-loop) → Listed (directoryOf (card l)) 208 (used l) (start l .args .count)
 list l = start l .pre .1 .0
 
+abbrev looked : tie.After-size Inv-loop μ-loop → tie.After-entry-at Inv-loop μ-loop
+looked s = s .before .before .before .before
+
 abbrev turn : tie.After-size Inv-loop μ-loop → tie.At-loop Inv-loop μ-loop
-turn s = s .before .before .before .before .before .before .before
+turn s = looked s .before .before .before
 
 abbrev entry : tie.After-size Inv-loop μ-loop → ℕ
-entry s = s .before .before .before .before .before .listed-at .result
+entry s = looked s .before .listed-at .result
 
 below : (s : tie.After-size Inv-loop μ-loop) → turn s .loop .j < start (turn s) .args .count
 below s = omega arith
 
 is-entry : (s : tie.After-size Inv-loop μ-loop) → entry s ≡ getD (used (turn s)) (turn s .loop .j) 0
-is-entry s = s .before .before .before .before .before .listed-at .ensures
+is-entry s = looked s .before .listed-at .ensures
 
 is-used : (s : tie.After-size Inv-loop μ-loop) → isUsed (entryAt (directoryOf (card (turn s))) (entry s)) ≡ true
 is-used s = listed-used (list (turn s)) (turn s .loop .j) _ (is-entry s) (below s)
@@ -129,7 +132,7 @@ entry-at-requires c κs =
 walk-file-requires : tie.Need-walk-file-requires Inv-loop μ-loop
 walk-file-requires c κs =
     let l = turn c in
-    let e = c .before .before .before .before .entry-at .ensures .0 in
+    let e = looked c .entry-at .ensures .0 in
     let b = c .before .first-block .ensures in
     let n = c .size .ensures in
     let right = right-entry _ (is-used c) (start l .pre .1 .1 _ (listed-below (list l) (l .loop .j) _ (is-entry c) (below c))) in
@@ -141,7 +144,7 @@ returns c =
     let w = t .before .before in
     let s = w .before in
     let l = turn s in
-    let walked = entry-walked (l .before .read-table .ensures) (s .before .before .before .before .entry-at .ensures .0) (s .before .first-block .ensures) (s .size .ensures) (w .walk-file .ensures) in
+    let walked = entry-walked (l .before .read-table .ensures) (looked s .entry-at .ensures .0) (s .before .first-block .ensures) (s .size .ensures) (w .walk-file .ensures) in
     let b = sym (walk-broken _ _ _ (is-used s) walked) ∙ sym (t .before .is-broken .ensures) ∙ t .if1 .taken in
     let v = c .refused-at .ensures in
     (v ∙ chain-refused (card l) _ (l .loop .inv .2 ∙ found-here _ (bad (card l)) (unused-bad _ _) (list l) (l .loop .j) _ (is-entry s) (below s) b), λ e. absurd (false≢true (sym (ap accepted v) ∙ e)))
@@ -158,7 +161,7 @@ loop-again c =
     let h = below s in
     let more : j + 1 ≤ start l .args .count = omega arith in
     let first = l .loop .first in
-    let walked = entry-walked (l .before .read-table .ensures) (s .before .before .before .before .entry-at .ensures .0) (s .before .first-block .ensures) (s .size .ensures) (w .walk-file .ensures) in
+    let walked = entry-walked (l .before .read-table .ensures) (looked s .entry-at .ensures .0) (s .before .first-block .ensures) (s .size .ensures) (w .walk-file .ensures) in
     let u = is-used s in
     let sound = sym (t .before .is-broken .ensures) ∙ t .if1 .left in
     let good = sym (walk-broken _ _ _ u walked) ∙ sound in

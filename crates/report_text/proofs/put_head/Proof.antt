@@ -1,75 +1,63 @@
--- `put_head` meets its contract. Assumes nothing.
-use Rattle.report_text.proofs.HeadLaws.{partition-left, version-left, user-left, used-left, live-left}
-use Rattle.report_text.proofs.WrittenLaws.{left-room, left-last}
+-- `put_head` meets its contract: behind each line, what is left of the head. Assumes nothing.
+use Prim.Native.Nat.{ℕ}
+use mathlib.Core.List.{List, _++_}
+use Rattle.report_text.specs.Text.{line, partitionWord, liveWord}
+use Rattle.report_text.proofs.TextLaws.{headOf}
+use Rattle.report_text.proofs.HeadLaws.{fromUsed, fromUser, fromVersion, head-left}
+use Rattle.report_text.proofs.WrittenLaws.{StillToWrite, left-room, left-next, left-last}
 use borrow.Author.Needs.{needs}
 use Rattle.report_text.proofs.put_head.Statement.{statement}
 use Rattle.report_text.proofs.put_head.Tie as tie
 
-put-line-requires : tie.Need-put-line-requires
-put-line-requires c κs =
-    let s = c .before .before .before in
-    let k = s .args .counts in
-    left-room _ _ (partition-left (s .args .partition) (k .version) (k .capacity) (k .used) (k .live) (s .pre))
+-- ---- the places behind the lines, each from the one after it, and what is left there
 
-put-line-requires-2 : tie.Need-put-line-requires-2
-put-line-requires-2 c κs =
-    let w = c .before .before .before .before .before in
-    let s = w .before .before .before .before in
-    let k = s .args .counts in
-    left-room _ _ (version-left (s .args .partition) (k .version) (k .capacity) (k .used) (k .live) (s .pre) (w .put-line .ensures))
+abbrev LeftOf : tie.Start → List ℕ → ℕ → List ℕ → Type 0
+LeftOf s = StillToWrite (s .args .out .now) 0 (headOf (s .args .partition) (s .args .counts))
 
-put-line-requires-3 : tie.Need-put-line-requires-3
-put-line-requires-3 c κs =
-    let v = c .before .before .before .before in
-    let w = v .before .before .before .before .before .before in
-    let s = w .before .before .before .before in
-    let k = s .args .counts in
-    left-room _ _ (user-left (s .args .partition) (k .version) (k .capacity) (k .used) (k .live) (s .pre) (w .put-line .ensures) (v .put-line2 .ensures))
+all-left : (c : tie.Start) → LeftOf c (c .args .out .now) 0 (line partitionWord (c .args .partition) ++ fromVersion (c .args .counts))
+all-left c = head-left (c .args .partition) (c .args .counts) (c .pre)
 
-put-line-requires-4 : tie.Need-put-line-requires-4
-put-line-requires-4 c κs =
-    let u = c .before .before .before .before in
-    let v = u .before .before .before .before .before in
-    let w = v .before .before .before .before .before .before in
-    let s = w .before .before .before .before in
-    let k = s .args .counts in
-    left-room _ _ (used-left (s .args .partition) (k .version) (k .capacity) (k .used) (k .live) (s .pre) (w .put-line .ensures) (v .put-line2 .ensures) (u .put-line3 .ensures))
+abbrev start : tie.After-put-line → tie.Start
+start c = c .before .before .before .before
 
-put-line-requires-5 : tie.Need-put-line-requires-5
-put-line-requires-5 c κs =
-    let t = c .before .before .before .before in
-    let u = t .before .before .before .before .before in
-    let v = u .before .before .before .before .before in
-    let w = v .before .before .before .before .before .before in
-    let s = w .before .before .before .before in
-    let k = s .args .counts in
-    live-left (s .args .partition) (k .version) (k .capacity) (k .used) (k .live) (s .pre) (w .put-line .ensures) (v .put-line2 .ensures) (u .put-line3 .ensures) (t .put-line4 .ensures) .fits
+left-1 : (c : tie.After-put-line) → LeftOf (start c) (c .put-line .last .0) (c .put-line .result) (fromVersion (start c .args .counts))
+left-1 c = left-next _ _ (all-left (start c)) (c .put-line .ensures)
 
-returns : tie.Need-returns
-returns c =
-    let e = c .before .before in
-    let t = e .before .before .before .before .before in
-    let u = t .before .before .before .before .before in
-    let v = u .before .before .before .before .before in
-    let w = v .before .before .before .before .before .before in
-    let s = w .before .before .before .before in
-    let k = s .args .counts in
-    left-last _ (live-left (s .args .partition) (k .version) (k .capacity) (k .used) (k .live) (s .pre) (w .put-line .ensures) (v .put-line2 .ensures) (u .put-line3 .ensures) (t .put-line4 .ensures)) (e .put-line5 .ensures)
+abbrev behind-1 : tie.After-put-line2 → tie.After-put-line
+behind-1 c = c .before .before .before .before .before .before
+
+left-2 : (c : tie.After-put-line2) → LeftOf (start (behind-1 c)) (c .put-line2 .last .0) (c .put-line2 .result) (fromUser (start (behind-1 c) .args .counts))
+left-2 c = left-next _ _ (left-1 (behind-1 c)) (c .put-line2 .ensures)
+
+abbrev behind-2 : tie.After-put-line3 → tie.After-put-line2
+behind-2 c = c .before .before .before .before .before
+
+left-3 : (c : tie.After-put-line3) → LeftOf (start (behind-1 (behind-2 c))) (c .put-line3 .last .0) (c .put-line3 .result) (fromUsed (start (behind-1 (behind-2 c)) .args .counts))
+left-3 c = left-next _ _ (left-2 (behind-2 c)) (c .put-line3 .ensures)
+
+abbrev behind-3 : tie.After-put-line4 → tie.After-put-line3
+behind-3 c = c .before .before .before .before .before
+
+abbrev at-4 : tie.After-put-line4 → tie.Start
+at-4 c = start (behind-1 (behind-2 (behind-3 c)))
+
+left-4 : (c : tie.After-put-line4) → LeftOf (at-4 c) (c .put-line4 .last .0) (c .put-line4 .result) (line liveWord (at-4 c .args .counts .live))
+left-4 c = left-next _ _ (left-3 (behind-3 c)) (c .put-line4 .ensures)
 
 pub put-head-spec : {M : Type 1} → statement M
 put-head-spec =
     tie.close
     (tie.spec
     (λ c. search needs)
-    put-line-requires
+    (λ c κs. left-room _ _ (all-left (c .before .before .before)))
     (λ c. search needs)
     (λ c. search needs)
-    put-line-requires-2
+    (λ c κs. left-room _ _ (left-1 (c .before .before .before .before .before)))
     (λ c. search needs)
-    put-line-requires-3
+    (λ c κs. left-room _ _ (left-2 (c .before .before .before .before)))
     (λ c. search needs)
-    put-line-requires-4
+    (λ c κs. left-room _ _ (left-3 (c .before .before .before .before)))
     (λ c. search needs)
-    put-line-requires-5
+    (λ c κs. left-4 (c .before .before .before .before) .fits)
     (λ c. search needs)
-    returns)
+    (λ c. left-last _ (left-4 (c .before .before .before .before .before .before .before)) (c .before .before .put-line5 .ensures)))

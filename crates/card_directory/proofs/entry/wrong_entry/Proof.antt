@@ -9,7 +9,7 @@ use borrow.Author.Needs.{needs}
 use Rattle.card_directory.proofs.entry.wrong_entry.Statement.{statement}
 use Rattle.card_directory.proofs.entry.wrong_entry.Tie as tie
 
--- ---- what each test that was passed tells
+-- ---- the places behind the tests, each from the one after it, and what each test that was passed tells
 
 abbrev entry : tie.Else1 → List ℕ
 entry c = c .before .before .before .args .entry .now
@@ -17,16 +17,28 @@ entry c = c .before .before .before .args .entry .now
 is-used : (c : tie.Else1) → isUsed (entry c) ≡ true
 is-used c = sym (c .before .is-used .ensures) ∙ not-false _ (c .if1 .left)
 
-right-kind : (c : tie.Else2) → wrongKind (entry (c .before .before)) ≡ false
+abbrev used : tie.Else2 → tie.Else1
+used c = c .before .before
+
+right-kind : (c : tie.Else2) → wrongKind (entry (used c)) ≡ false
 right-kind c = sym (c .before .wrong-kind .ensures) ∙ c .if2 .left
 
-right-flag : (c : tie.Else3) → wrongFlag (entry (c .before .before .before .before)) ≡ false
+abbrev kind-right : tie.Else3 → tie.Else2
+kind-right c = c .before .before
+
+right-flag : (c : tie.Else3) → wrongFlag (entry (used (kind-right c))) ≡ false
 right-flag c = sym (c .before .wrong-flag .ensures) ∙ c .if3 .left
 
-right-first : (c : tie.Else4) → wrongFirst (entry (c .before .before .before .before .before .before)) ≡ false
+abbrev flag-right : tie.Else4 → tie.Else3
+flag-right c = c .before .before
+
+right-first : (c : tie.Else4) → wrongFirst (entry (used (kind-right (flag-right c)))) ≡ false
 right-first c = sym (c .before .wrong-first .ensures) ∙ c .if4 .left
 
-right-size : (c : tie.Else5) → wrongSize (entry (c .before .before .before .before .before .before .before .before)) ≡ false
+abbrev first-right : tie.Else5 → tie.Else4
+first-right c = c .before .before
+
+right-size : (c : tie.Else5) → wrongSize (entry (used (kind-right (flag-right (first-right c))))) ≡ false
 right-size c = sym (c .before .wrong-size .ensures) ∙ c .if5 .left
 
 returns : tie.Need-returns
@@ -35,39 +47,36 @@ returns c = rw (sym (c .before .is-used .ensures) ∙ not-true _ (c .if1 .taken)
 
 returns-2 : tie.Need-returns-2
 unfolding wrongEntry
-returns-2 c =
-    let k = c .before in
-    rw (is-used (k .before), sym (k .wrong-kind .ensures) ∙ c .if2 .taken)
+returns-2 c = rw (is-used (c .before .before), sym (c .before .wrong-kind .ensures) ∙ c .if2 .taken)
 
 returns-3 : tie.Need-returns-3
 unfolding wrongEntry
 returns-3 c =
     let k = c .before .before in
-    rw (is-used (k .before .before), right-kind k, sym (c .before .wrong-flag .ensures) ∙ c .if3 .taken)
+    rw (is-used (used k), right-kind k, sym (c .before .wrong-flag .ensures) ∙ c .if3 .taken)
 
 returns-4 : tie.Need-returns-4
 unfolding wrongEntry
 returns-4 c =
     let f = c .before .before in
-    let k = f .before .before in
-    rw (is-used (k .before .before), right-kind k, right-flag f, sym (c .before .wrong-first .ensures) ∙ c .if4 .taken)
+    let k = kind-right f in
+    rw (is-used (used k), right-kind k, right-flag f, sym (c .before .wrong-first .ensures) ∙ c .if4 .taken)
 
 returns-5 : tie.Need-returns-5
 unfolding wrongEntry
 returns-5 c =
     let b = c .before .before in
-    let f = b .before .before in
-    let k = f .before .before in
-    rw (is-used (k .before .before), right-kind k, right-flag f, right-first b, sym (c .before .wrong-size .ensures) ∙ c .if5 .taken)
+    let f = flag-right b in
+    let k = kind-right f in
+    rw (is-used (used k), right-kind k, right-flag f, right-first b, sym (c .before .wrong-size .ensures) ∙ c .if5 .taken)
 
 returns-6 : tie.Need-returns-6
 unfolding wrongEntry
 returns-6 c =
-    let n = c .before in
-    let b = n .before .before in
-    let f = b .before .before in
-    let k = f .before .before in
-    rw (is-used (k .before .before), right-kind k, right-flag f, right-first b, right-size n, c .wrong-offset .ensures)
+    let b = first-right (c .before) in
+    let f = flag-right b in
+    let k = kind-right f in
+    rw (is-used (used k), right-kind k, right-flag f, right-first b, right-size (c .before), c .wrong-offset .ensures)
 
 pub wrong-entry-spec : {M : Type 1} → statement M
 wrong-entry-spec =
