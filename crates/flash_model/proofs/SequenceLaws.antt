@@ -104,7 +104,7 @@ keep-length p k (suc n) = go (keep-length p (suc k) n) (p k)
     go ih true = omega arith
     go ih false = omega arith
 
--- so many are the only ones
+-- there is one such count
 pub up-to-one : (p : ℕ → Bool) (n u v : ℕ) → UpTo p n u → UpTo p n v → u ≤ n → v ≤ n → u ≡ v
 up-to-one p n u v a b h l = omega (arith, at-most u v a b h, at-most v u b a l)
   where

@@ -4,11 +4,6 @@ use Rattle.card_chains.proofs.MarkLaws.{orphans-are}
 use borrow.Author.Needs.{needs}
 use Rattle.card_chains.proofs.count_orphans.Statement.{statement}
 use Rattle.card_chains.proofs.count_orphans.Tie as tie
-use Rattle.card_chains.proofs.count_orphans.Reads as reads
-use Rattle.card_chains.proofs.count_orphans.Lts as lts
-use Rattle.card_chains.proofs.count_marked.Reads as count-marked-reads
-use Rattle.card_chains.proofs.count_in_use.Reads as count-in-use-reads
-use Rattle.words.proofs.wide.Reads as wide-reads
 
 sub-result : tie.Need-sub-result
 sub-result c =

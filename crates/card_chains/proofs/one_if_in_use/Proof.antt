@@ -3,11 +3,6 @@ use Rattle.card_chains.proofs.LinkLaws.{use-read}
 use borrow.Author.Needs.{needs}
 use Rattle.card_chains.proofs.one_if_in_use.Statement.{statement}
 use Rattle.card_chains.proofs.one_if_in_use.Tie as tie
-use Rattle.card_chains.proofs.one_if_in_use.Reads as reads
-use Rattle.card_chains.proofs.one_if_in_use.Lts as lts
-use Rattle.card_table.proofs.classify.Reads as classify-reads
-use Rattle.card_table.proofs.fat_entry.Reads as fat-entry-reads
-use Rattle.card_table.proofs.free_or_damaged.Reads as free-or-damaged-reads
 
 returns : tie.Need-returns
 returns c =

@@ -4,8 +4,6 @@ use Rattle.card_chains.specs.Marks.{isMarked}
 use borrow.Author.Needs.{needs}
 use Rattle.card_chains.proofs.one_if_marked.Statement.{statement}
 use Rattle.card_chains.proofs.one_if_marked.Tie as tie
-use Rattle.card_chains.proofs.one_if_marked.Reads as reads
-use Rattle.card_chains.proofs.one_if_marked.Lts as lts
 
 returns : tie.Need-returns
 unfolding isMarked

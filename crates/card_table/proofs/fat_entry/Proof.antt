@@ -5,9 +5,6 @@ use Rattle.card_table.proofs.TableLaws.{part-word, entry-word}
 use borrow.Author.Needs.{needs}
 use Rattle.card_table.proofs.fat_entry.Statement.{statement}
 use Rattle.card_table.proofs.fat_entry.Tie as tie
-use Rattle.card_table.proofs.fat_entry.Reads as reads
-use Rattle.card_table.proofs.fat_entry.Lts as lts
-use Rattle.words.proofs.word.Reads as word-reads
 
 part-word-end : tie.Need-part-word-end
 unfolding cardLength

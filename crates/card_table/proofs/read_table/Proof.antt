@@ -6,8 +6,6 @@ use Rattle.card_table.proofs.TableLaws.{ReadTo, read-next, read-all}
 use borrow.Author.Needs.{needs}
 use Rattle.card_table.proofs.read_table.Statement.{statement}
 use Rattle.card_table.proofs.read_table.Tie as tie
-use Rattle.card_table.proofs.read_table.Reads as reads
-use Rattle.card_table.proofs.read_table.Lts as lts
 
 abbrev Inv-loop : tie.InvT-loop
 Inv-loop card table₀ b₀ table b = ReadTo card table b
