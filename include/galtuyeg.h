@@ -175,7 +175,7 @@ struct galtuyeg_card_checked {
     uint64_t code;
     uint64_t place_kind;
     uint64_t place;
-    uint64_t orphans; /* user blocks in use by no file */
+    uint64_t orphans; /* user blocks in use, but in no file */
 };
 
 struct galtuyeg_card_entry {

@@ -1,4 +1,4 @@
-// Opening a card: every call begins with it, and refusals 20 to 30 are made here and nowhere else.
+// Opening a card: every call begins with it, and the rows 20 to 30 are put together here and nowhere else.
 use card_chains::walk_files;
 use card_directory::used::entry_row;
 use card_directory::used::list_used;

@@ -53,7 +53,7 @@ fn entry_slot(entry: &[u8]) -> usize
     slot_of(&entry[4..16])
 }
 
-// The last of the first listed entries that has this name, where the last of them may have its slot.
+// The last of the first `start` listed entries that has this name, counted from 1, or 0; the last of them has its slot.
 fn find_back(card: &[u8], used: &[u8; 208], next: &[u8; 208], start: usize, name: &[u8]) -> usize
     requires { ⌜ (length (now card) ≡ cardLength) × (start ≤ 208) ⌝ }
     requires { ⌜ hash.Chained (directoryOf (now card)) (now used) (now next) start ⌝ }

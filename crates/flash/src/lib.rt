@@ -1,6 +1,7 @@
 // System flash partitions: check, report, next live block, read, save and erase, on an image lent by the caller.
 //
-// Every call answers a number: 0 when it is done, else the refusal's of document 01's table, and then nothing has changed.
+// Every call answers a number, or values in its place: 0 when it is done, else the refusal's of document 01's table, and then nothing
+// has changed.
 // No call asks anything of what it is lent.
 mod steps;
 

@@ -65,7 +65,7 @@ module _ {image : List ℕ} {log : OpenedLog} (u : Usable image log) where
       keep-below (isHolder image) 1 (log .used) (capacity (length image)) (omega (arith, count-most u, ap capacity (u .has-size)))
       (λ i a b. unused-holder i (omega (arith, a)) (omega (arith, b)))
 
-  -- a test of the holders that are kept of an marks
+  -- a test of the holders that are kept with these marks
   pub kept-by : (marks : List ℕ) (q : ℕ → Bool) → ((k : ℕ) → eqb (getD marks (number (blockAt image k)) 0) 0 ≡ q k)
       → keptBlocks marks image (log .used) ≡ keep q (keep (isHolder image) (userBlocks (length image)))
   unfolding keptBlocks isKept

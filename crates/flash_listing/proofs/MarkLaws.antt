@@ -113,7 +113,7 @@ module _ {marks image : List ℕ} {size end k : ℕ} (low : 1 ≤ k) (f : PassAt
     held-here : rightChecksum (blockAt image k) ≡ true → holder image b ≡ some k
     held-here right = f .unmarked b below free ∙ highest-here (copyAt image b) k low (rw (eq-eqb b b refl, right))
 
-    -- with a wrong checksum nothing is stored
+    -- with a wrong checksum the 0 stored changes nothing
     same-marks : rightChecksum (blockAt image k) ≡ false → marks ≡ set marks b (mark (blockAt image k))
     unfolding mark
     same-marks wrong = rw wrong (sym (ap (set marks b) (sym free) ∙ set-getD marks b 0))

@@ -37,7 +37,7 @@ module _ (size header : ℕ) (owned : ℕ → Bool) where
   not-owned (read partition n buffer) e = refl
   not-owned (save partition n expected page) e = e
 
-  -- one one-step, and what comes of the rest
+  -- one step, and what comes of the rest
   one-step : (image : List ℕ) (pages : PageMap) → Agree size header owned image pages
       → (c : Call) (image′ : List ℕ) (answer : Reply) → Answered image c image′ answer
       → (calls : List PageCall) (answers : List Reply) (end : List ℕ)

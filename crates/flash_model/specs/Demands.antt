@@ -104,10 +104,11 @@ pub record Meanings : Type 0 where
 -- "Any bytes at all may be handed in as an image, a page or a number": each field is about every image and every call, and no
 -- public call has a `requires`.
 -- "Every public call ends, reads and writes only inside what it was lent, and tests its own input": that it ends and stays
--- inside, the toolchain proves of each function; what it then answers and leaves is `answered`, and the image is no longer and
--- no shorter (`same-length`).
+-- inside, the toolchain proves of each function. Whatever is handed in, there is an answer (`answered`; which one, `Answered` says),
+-- and the image is no longer and no shorter (`same-length`). What the tests let pass is sound: `Meanings.refused-not`.
 -- "A refusal gives the number in document 01's table, and the image and every other buffer stay byte for byte as they came in":
--- `in-table` and `refusal-keeps`; which number it is, `Meanings` and demand 2 say.
+-- `in-table` and `refusal-keeps`; which number it is, `Meanings` and demand 2 say. For cards card_model's Theorems have the same:
+-- `refused-exactly`, `refused-everywhere`, `refused-unchanged`.
 pub record Demand1 : Type 0 where
   pub answered : (image : List ℕ) (c : Call) → (image′ : List ℕ) × (answer : Reply) × Answered image c image′ answer
   -- 0 to 9 are the table's numbers for a partition

@@ -1,4 +1,4 @@
--- `main` meets its contract. Assumes nothing.
+-- `main` is safe and ends. Assumes what libc says of `read` and `write`.
 use Rattle.report.proofs.InputLaws.{image-held, start-length}
 use borrow.Author.Needs.{needs}
 use Rattle.report.proofs.main.Statement.{statement}

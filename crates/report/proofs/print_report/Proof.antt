@@ -1,4 +1,4 @@
--- `print_report` meets its contract. Assumes nothing.
+-- `print_report` is safe and ends. Assumes what libc says of `write`.
 use Rattle.report_text.specs.Text.{reportText}
 use Rattle.report.proofs.InputLaws.{start-length}
 use Rattle.report.proofs.PrintLaws.{text-within}

@@ -1,4 +1,4 @@
--- `print_too_long` meets its contract. Assumes nothing.
+-- `print_too_long` is safe and ends. Assumes what libc says of `write`.
 use Rattle.report_text.specs.Text.{line, refusedWord}
 use Rattle.report.proofs.InputLaws.{start-length}
 use Rattle.report.proofs.PrintLaws.{text-within}

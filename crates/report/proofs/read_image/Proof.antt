@@ -1,4 +1,4 @@
--- `read_image` meets its contract: what is read never passes the buffer's end. Assumes nothing.
+-- `read_image` meets its contract: what is read never passes the buffer's end. Assumes what libc says of `read`.
 use Prim.Native.Nat.{_-_, _≤_}
 use mathlib.Core.Path.{_≡_, refl, _∙_}
 use native.Mathlib.Omega.{arith}

@@ -1,4 +1,4 @@
--- `checksum::folding::remainder` meets its contract: each half of the word is folded onto the other.
+-- `checksum::folding::remainder` meets its contract: the high half of the word is folded onto the low one, twice.
 -- Assumes nothing.
 use Prim.Native.Nat.{ℕ, _<_, _/_, _%_}
 use mathlib.Core.Path.{_≡_, sym, ap, ap₂, _∙_}
