@@ -14,8 +14,10 @@ def first_error(crate, name):
     log = ROOT / "target/must-fail" / crate / name / ".log"
     if not log.is_file():
         return "not tried"
-    found = re.search(rf"/{name}/(\S+): error: (`[^`]+`)?", log.read_text(encoding="utf-8", errors="replace"))
-    return " ".join(part for part in found.groups() if part) if found else "no error"
+    text = log.read_text(encoding="utf-8", errors="replace")
+    # Where rattle made the whole proof itself, it says in a note what is not proved.
+    found = re.search(rf"/{name}/(\S+): (it is not proved that [^(\n]*)", text) or re.search(rf"/{name}/(\S+): error: (`[^`]+`)?", text)
+    return " ".join(part.strip() for part in found.groups() if part) if found else "no error"
 
 
 def main(arguments):
