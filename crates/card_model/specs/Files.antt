@@ -18,7 +18,7 @@ use Rattle.card_model.specs.Entries.{firstBlock, size, isUsed, isGame, e
 
 -- ---- chains
 
--- One step of a chain at block b with so many blocks left after it: the last block's entry is FFFA, each other one names the
+-- One step of a chain at block b with `left` blocks after it: the last block's entry is FFFA, each other one names the
 -- next block, from which the rest follows.
 unfoldable pub chainStep : Link → ℕ → ℕ → (ℕ → Option (List ℕ)) → Option (List ℕ)
 chainStep Last b left rest = cond (eqb left 0) (some (b ∷ [])) none

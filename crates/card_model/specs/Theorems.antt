@@ -57,7 +57,7 @@ pub data WrongFields (entry : List ℕ) : Type 0 where
   -- "for data, header offset (0x1a) below the size"
   wrong-offset : isData entry ≡ true → size entry ≤ headerOffset entry → WrongFields entry
 
--- The blocks are a chain from b with so many left: "The first size-1 entries each name a block in 0..199 and the last one is
+-- The blocks are a chain of `left` blocks from b: "The first size-1 entries each name a block in 0..199 and the last one is
 -- FFFA".
 pub record IsChain (table : List ℕ) (left b : ℕ) (blocks : List ℕ) : Type 0 where
   pub long : length blocks ≡ left

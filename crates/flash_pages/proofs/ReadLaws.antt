@@ -1,4 +1,4 @@
--- Reading: each way out of the functions is a row of the table. Assumes nothing.
+-- Reading: each `return` of the functions is a row of the table. Assumes nothing.
 use Prim.Native.Nat.{ℕ, suc, _-_, _≤_}
 use mathlib.Core.Path.{_≡_, sym, ap, _∙_}
 use mathlib.Core.Bool.{Bool, true, false}

@@ -1,4 +1,4 @@
--- How an image is opened: each way out of the function is a case of `openingOf`. Assumes nothing.
+-- How an image is opened: each `return` of the function is a case of `openingOf`. Assumes nothing.
 use Prim.Native.Nat.{ℕ, _-_, _≤_}
 use mathlib.Core.Path.{_≡_, refl, sym, ap, _∙_}
 use mathlib.Core.Bool.{Bool, true, false, not, true≢false}

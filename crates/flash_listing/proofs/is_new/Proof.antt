@@ -1,4 +1,4 @@
--- `flash_listing::is_new` meets its contract: each way out is a case of `isNew`. Assumes nothing.
+-- `flash_listing::is_new` meets its contract: each `return` is a case of `isNew`. Assumes nothing.
 use mathlib.Core.Path.{sym}
 use borrow.Author.Tests.{lt-ltb, le-ltb}
 use Rattle.flash_listing.specs.BlockTests.{isNew}

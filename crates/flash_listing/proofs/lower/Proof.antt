@@ -1,4 +1,4 @@
--- `flash_listing::lower` meets its contract: each way out is a case of `lowered`. Assumes nothing.
+-- `flash_listing::lower` meets its contract: each `return` is a case of `lowered`. Assumes nothing.
 use mathlib.Core.Path.{sym, _∙_}
 use Rattle.flash_partition.proofs.PartLaws.{number-is}
 use Rattle.flash_listing.proofs.NextLaws.{lowered-passed, lowered-taken, lowered-wrong}
