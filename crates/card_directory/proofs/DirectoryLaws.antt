@@ -7,8 +7,6 @@ use mathlib.Core.Option.{Option, none, some}
 use native.Mathlib.Omega.{arith}
 use native.Mathlib.Nat.{add-sub-cancel-left}
 use lib.ListN.{length, take, drop}
-use mir.Syntax.{Width}
-use mir.Val.{Fits}
 use Rattle.words.specs.Lists.{isSome}
 use Rattle.words.specs.Search.{lowest}
 use Rattle.words.specs.Words.{sameBytes}
@@ -19,11 +17,11 @@ use Rattle.card_model.proofs.EntryLaws.{entry-is, entry-length}
 use Rattle.card_directory.specs.declared.search.FoundEntry.the-variants.{Hit, Nothing}
 use Rattle.card_directory.specs.Found.{asFound}
 
--- an entry's bytes as the part that a function takes out, whose place its fitting names
-pub entry-part : (card : List ℕ) (i : ℕ) {w : Width} {at : ℕ} → Fits w at → length card ≡ cardLength → i < 208 → entryPlace i ≡ at
+-- an entry's bytes as the part that a function takes out at this place
+pub entry-part : (card : List ℕ) (i : ℕ) {at : ℕ} → length card ≡ cardLength → i < 208 → at ≡ entryPlace i
     → (take (at + 32 - at) (drop at card) ≡ entryAt (directoryOf card) i) × (length (take (at + 32 - at) (drop at card)) ≡ 32)
-entry-part card i {at = at} fits long b e =
-    let part = ap (λ (n : ℕ). take n (drop at card)) (add-sub-cancel-left at 32) ∙ ap (λ (p : ℕ). take 32 (drop p card)) (sym e) ∙ sym (entry-is card i b) in
+entry-part card i {at} long b e =
+    let part = ap (λ (n : ℕ). take n (drop at card)) (add-sub-cancel-left at 32) ∙ ap (λ (p : ℕ). take 32 (drop p card)) e ∙ sym (entry-is card i b) in
     (part, ap length part ∙ entry-length card i long b)
 
 pub unused-right : (directory : List (List ℕ)) (i : ℕ) → isUsed (entryAt directory i) ≡ false → wrongEntry (entryAt directory i) ≡ false

@@ -2,18 +2,26 @@
 use words::same;
 use words::word;
 ghost use mathlib.Core.Path.{_≡_};
-ghost use Prim.Native.Nat.{_<_};
+ghost use Prim.Native.Nat.{_+_, _≤_, _<_};
 ghost use lib.ListN.{length};
 ghost use Rattle.words.specs.Words.{sameBytes};
-ghost use Rattle.card_model.specs.Layout.{cardLength, directoryOf};
+ghost use Rattle.card_model.specs.Layout.{cardLength, entryPlace, directoryOf};
 ghost use Rattle.card_model.specs.Entries as model;
+
+// Where entry i begins.
+pub fn entry_place(i: usize) -> usize
+    requires { ⌜ i < 208 ⌝ }
+    ensures { λ r. ⌜ (r ≡ entryPlace i) × (r + 32 ≤ cardLength) ⌝ }
+{
+    (253 - i / 16) * 512 + 32 * (i % 16)
+}
 
 // The bytes of entry i.
 pub fn entry_at(card: &[u8], i: usize) -> &[u8]
     requires { ⌜ (length (now card) ≡ cardLength) × (i < 208) ⌝ }
     ensures { λ r. ⌜ (now r ≡ model.entryAt (directoryOf (now (card .entry))) i) × (length (now r) ≡ 32) ⌝ }
 {
-    let at = (253 - i / 16) * 512 + 32 * (i % 16);
+    let at = entry_place(i);
     let end = at + 32;
     &card[at..end]
 }
@@ -74,11 +82,11 @@ fn wrong_kind(entry: &[u8]) -> bool
     !(is_data(entry) | is_game(entry))
 }
 
-fn wrong_flag(entry: &[u8]) -> bool
-    requires { ⌜ length (now entry) ≡ 32 ⌝ }
-    ensures { λ r. ⌜ r ≡ model.wrongFlag (now (entry .entry)) ⌝ }
+// Of the byte alone: a file that is to be written has no entry yet.
+pub fn wrong_flag(flag: u8) -> bool
+    ensures { λ r. ⌜ r ≡ model.wrongFlag flag ⌝ }
 {
-    !((entry[1] == 0x00) | (entry[1] == 0xFF))
+    !((flag == 0x00) | (flag == 0xFF))
 }
 
 fn wrong_first(entry: &[u8]) -> bool
@@ -114,7 +122,7 @@ pub(crate) fn wrong_entry(entry: &[u8]) -> bool
     if wrong_kind(entry) {
         return true;
     }
-    if wrong_flag(entry) {
+    if wrong_flag(entry[1]) {
         return true;
     }
     if wrong_first(entry) {

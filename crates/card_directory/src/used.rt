@@ -6,10 +6,10 @@ use verdicts::Place;
 use verdicts::Verdict;
 use verdicts::done;
 use verdicts::refused_at;
+use words::one_if;
 use words::wide;
 ghost use mathlib.Core.Path.{_≡_};
-ghost use mathlib.Core.Bool.{cond};
-ghost use Prim.Native.Nat.{_+_, _≤_, _<_};
+ghost use Prim.Native.Nat.{_+_, _<_};
 ghost use lib.ListN.{length, getD};
 ghost use Rattle.card_model.specs.Layout.{cardLength, directoryOf};
 ghost use Rattle.card_model.specs.Entries.{entryRow};
@@ -21,15 +21,6 @@ pub fn listed_at(used: &[u8; 208], j: usize) -> usize
     ensures { λ r. ⌜ r ≡ getD (now (used .entry)) j 0 ⌝ }
 {
     wide(used[j])
-}
-
-fn one_if(test: bool) -> usize
-    ensures { λ r. ⌜ (r ≡ cond test 1 0) × (r ≤ 1) ⌝ }
-{
-    if test {
-        return 1;
-    }
-    0
 }
 
 // Entry i is put behind the list, and stays there where it is used: the count that is answered has it then. No step depends on

@@ -57,7 +57,7 @@ module _ (table : List ℕ) where
           next none r f = let z : _≡_ {A = ℕ} 0 1 = cc in absurd (omega arith)
           next (some rest) r f = subst (λ (l : List ℕ). Links table (suc left) b l) (Option·some-injective _ _ f) (goes q (ih n rest r))
 
-  links-chain : {left b : ℕ} {bs : List ℕ} → Links table left b bs → chain table left b ≡ some bs
+  pub links-chain : {left b : ℕ} {bs : List ℕ} → Links table left b bs → chain table left b ≡ some bs
   unfolding chain chainStep
   links-chain (ends q) = rw q
   links-chain (goes q l) = rw (q, links-chain l)

@@ -14,7 +14,7 @@ use Rattle.words.proofs.Bools.{or-false-left, or-false-right, and-true-left, an
 use Rattle.words.proofs.ListLaws.{map-snoc, range-at}
 use Rattle.words.proofs.JoinLaws.{concat-snoc}
 use Rattle.card_model.specs.Layout.{cardLength, entryBlock, entryByte, entryPlace, directoryOf}
-use Rattle.card_model.specs.Entries.{firstBlock, size, isUsed, wrongKind, wrongFlag, wrongFirst, wrongSize, wrongOffset, wrongEntry, entryAt}
+use Rattle.card_model.specs.Entries.{flag, firstBlock, size, isUsed, wrongKind, wrongFlag, wrongFirst, wrongSize, wrongOffset, wrongEntry, entryAt}
 use Rattle.card_model.specs.Files.{chain, chainOf, badChain, orEmpty, fileOf, filesBefore}
 
 pub entry-is : (card : List ℕ) (i : ℕ) → i < 208 → entryAt (directoryOf card) i ≡ take 32 (drop (entryPlace i) card)
@@ -31,7 +31,7 @@ module _ (entry : List ℕ) (u : isUsed entry ≡ true) where
   pub right-entry : wrongEntry entry ≡ false → (firstBlock entry < 200) × (1 ≤ size entry) × (size entry ≤ 200)
   unfolding wrongEntry wrongFirst wrongSize
   right-entry e =
-      let a = or-false-right (wrongFlag entry) _ (or-false-right (wrongKind entry) _ (rw u at e)) in
+      let a = or-false-right (wrongFlag (flag entry)) _ (or-false-right (wrongKind entry) _ (rw u at e)) in
       let b = or-false-right (wrongFirst entry) _ a in
       let n = not-false _ (or-false-left _ (wrongOffset entry) b) in
       (ltb-true _ _ (not-false _ (or-false-left _ _ a)), leb-true _ _ (and-true-left (leb 1 (size entry)) _ n), leb-true _ _ (and-true-right (leb 1 (size entry)) _ n))

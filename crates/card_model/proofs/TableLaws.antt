@@ -1,19 +1,26 @@
--- The root block and the table: what the tests of rows 22, 24 and 25 tell in the paper's words, that these make them true, and what
--- a link tells of its entry.
+-- The root block and the table: where an entry stands, what the tests of rows 22, 24 and 25 tell in the paper's words, that these make
+-- them true, and what a link tells of its entry.
 -- Assumes nothing.
 use Prim.Native.Nat.{ℕ, _≤_, _<_}
-use mathlib.Core.Path.{_≡_, refl, ap, subst}
+use mathlib.Core.Path.{_≡_, refl, ap, subst, _∙_}
 use mathlib.Core.Bool.{Bool, true, false, not, cond, _&&_, false≢true, and-false}
 use mathlib.Core.List.{List}
 use mathlib.Core.Logic.{_≢_, ⊎-elim}
 use native.Mathlib.Omega.{arith}
 use lib.Dec.{eqb, ltb}
 use borrow.Author.Tests.{ltb-true, ltb-false, lt-ltb, eqb-true, eqb-false, ne-eqb}
+use Rattle.words.specs.Words.{word}
 use Rattle.words.proofs.Bools.{and-false-either}
+use Rattle.words.proofs.ListLaws.{range-at}
 use Rattle.card_model.specs.declared.Link.{Link}
 use Rattle.card_model.specs.declared.Link.the-variants.{Free, Damaged, Last, Next, Bad}
+use Rattle.card_model.specs.Layout.{fatPlace, tableOf}
 use Rattle.card_model.specs.Table.{rightFields, fatEntry, linkOf, linkAt, freeOrDamaged, isBad, wrongHidden, wrongUser}
 use Rattle.card_model.specs.Theorems.{WrongRoot, wrong-46, wrong-48, wrong-4a, wrong-4c, wrong-50}
+
+pub fat-is : (card : List ℕ) (b : ℕ) → b < 256 → fatEntry (tableOf card) b ≡ word card (fatPlace b)
+unfolding fatEntry tableOf
+fat-is card b h = range-at (λ j. word card (fatPlace j)) 0 256 b 0 h ∙ ap (λ (j : ℕ). word card (fatPlace j)) (omega arith)
 
 -- ---- 22
 
@@ -75,6 +82,9 @@ next-of e n q h =
 
 pub last-is : (e : ℕ) → linkOf e ≡ Last → e ≡ 0xFFFA
 last-is e q = subst (λ (l : Link). Told l e) q (told e)
+
+pub free-is : (e : ℕ) → linkOf e ≡ Free → e ≡ 0xFFFC
+free-is e q = subst (λ (l : Link). Told l e) q (told e)
 
 module _ (table : List ℕ) (b : ℕ) where
   abbrev entry : ℕ

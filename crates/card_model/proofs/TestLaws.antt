@@ -41,7 +41,7 @@ module _ (entry : List ℕ) where
           let n = not-true _ t in
           wrong-type (eqb-false _ _ (or-false-left _ _ n)) (eqb-false _ _ (or-false-right (isData entry) _ n))
 
-      flagged : wrongFlag entry ≡ true → WrongFields entry
+      flagged : wrongFlag (flag entry) ≡ true → WrongFields entry
       flagged t =
           let n = not-true _ t in
           wrong-flag (eqb-false _ _ (or-false-left _ _ n)) (eqb-false _ _ (or-false-right (eqb (flag entry) _) _ n))
@@ -115,7 +115,7 @@ rising-next (b ∷ n ∷ blocks) (suc k) e h =
 module _ (card : List ℕ) (i : ℕ) where
   -- ---- 28
 
-  in-files : (b : ℕ) → has b (filesBefore (tableOf card) (directoryOf card) i) ≡ anyOf (λ j. has b (fileOn card j)) (numbersFrom 0 i)
+  pub in-files : (b : ℕ) → has b (filesBefore (tableOf card) (directoryOf card) i) ≡ anyOf (λ j. has b (fileOn card j)) (numbersFrom 0 i)
   unfolding filesBefore
   in-files b = any-concat (λ m. eqb m b) (λ j. fileOn card j) (numbersFrom 0 i)
 

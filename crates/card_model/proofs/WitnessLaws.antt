@@ -31,7 +31,7 @@ use Rattle.card_model.specs.Sound.{SoundCard, entryOn}
 abbrev zeros : List ℕ
 zeros = replicate bytesBefore 0
 
-table : List ℕ → List ℕ
+unfoldable pub table : List ℕ → List ℕ
 table users = users ++ systemTable
 
 abbrev fat : List ℕ → List ℕ
@@ -41,7 +41,7 @@ fat users = concat (map wordBytes (table users))
 abbrev ending : List (List ℕ) → List ℕ → List ℕ
 ending entries users = concat entries ++ (fat users ++ rootBlock)
 
-directory : List (List ℕ) → List (List ℕ)
+unfoldable pub directory : List (List ℕ) → List (List ℕ)
 directory entries = entries ++ replicate 192 unusedEntry
 
 before-is : bytesBefore ≡ 253 * 512
@@ -82,11 +82,11 @@ filled-at l x n i h m =
 -- ---- what is read off the card
 
 -- What computes on the entries and the users alone.
-record Computed (entries : List (List ℕ)) (users : List ℕ) : Type 0 where
-  sizes : map (λ e. length e) entries ≡ replicate 16 32
-  whole : length (table users) ≡ 256
-  table-rows : tableRows rootBlock (table users) ≡ done
-  directory-rows : directoryRows (table users) (directory entries) ≡ done
+pub record Computed (entries : List (List ℕ)) (users : List ℕ) : Type 0 where
+  pub sizes : map (λ e. length e) entries ≡ replicate 16 32
+  pub whole : length (table users) ≡ 256
+  pub table-rows : tableRows rootBlock (table users) ≡ done
+  pub directory-rows : directoryRows (table users) (directory entries) ≡ done
 
 module _ (entries : List (List ℕ)) (users : List ℕ) (c : Computed entries users) where
   sixteen : length entries ≡ 16
@@ -121,7 +121,7 @@ module _ (entries : List (List ℕ)) (users : List ℕ) (c : Computed entries us
       ap (word (cardOf entries users)) e ∙ word-past zeros (ending entries users) (length (concat entries) + 2 * b)
       ∙ word-past (concat entries) (fat users ++ rootBlock) (2 * b) ∙ words-at (table users) rootBlock b (omega (arith, c .whole))
 
-  table-is : tableOf (cardOf entries users) ≡ table users
+  pub table-is : tableOf (cardOf entries users) ≡ table users
   unfolding tableOf
   table-is =
       map-same (λ b. word (cardOf entries users) (fatPlace b)) (λ b. getD (table users) b 0) 0 256 (λ b lo hi. word-is b (omega arith))
@@ -141,7 +141,7 @@ module _ (entries : List (List ℕ)) (users : List ℕ) (c : Computed entries us
       front-entry (entryPlace i) (ending entries users) (omega (arith, before-is))
       ∙ sym (filled-at entries unusedEntry 192 i (omega (arith, sixteen)) (omega (arith, sixteen)))
 
-  directory-is : directoryOf (cardOf entries users) ≡ directory entries
+  pub directory-is : directoryOf (cardOf entries users) ≡ directory entries
   unfolding directoryOf directory
   directory-is =
       map-same (λ i. take 32 (drop (entryPlace i) (cardOf entries users))) (λ i. getD (directory entries) i []) 0 208
@@ -152,7 +152,7 @@ module _ (entries : List (List ℕ)) (users : List ℕ) (c : Computed entries us
       go i h (yes d) = first-entry i d
       go i h (no d) = later-entry i (omega (arith, d)) h
 
-  sound : SoundCard (cardOf entries users)
+  pub sound : SoundCard (cardOf entries users)
   unfolding verdictOf lengthRow
   sound = rw (card-length, root-is, table-is, directory-is, eq-eqb cardLength cardLength refl, c .table-rows) (c .directory-rows)
 

@@ -56,9 +56,9 @@ isGame entry = eqb (kind entry) 0xCC
 unfoldable pub wrongKind : List ℕ → Bool
 wrongKind entry = not (isData entry || isGame entry)
 
--- "copy flag 00 or FF"
-unfoldable pub wrongFlag : List ℕ → Bool
-wrongFlag entry = not (eqb (flag entry) 0x00 || eqb (flag entry) 0xFF)
+-- "copy flag 00 or FF": of the byte alone, as a file that is to be written gives it.
+unfoldable pub wrongFlag : ℕ → Bool
+wrongFlag byte = not (eqb byte 0x00 || eqb byte 0xFF)
 
 -- "first block (0x02) below 200"
 unfoldable pub wrongFirst : List ℕ → Bool
@@ -73,7 +73,7 @@ unfoldable pub wrongOffset : List ℕ → Bool
 wrongOffset entry = isData entry && not (ltb (headerOffset entry) (size entry))
 
 unfoldable pub wrongEntry : List ℕ → Bool
-wrongEntry entry = isUsed entry && (wrongKind entry || (wrongFlag entry || (wrongFirst entry || (wrongSize entry || wrongOffset entry))))
+wrongEntry entry = isUsed entry && (wrongKind entry || (wrongFlag (flag entry) || (wrongFirst entry || (wrongSize entry || wrongOffset entry))))
 
 -- ---- over the directory
 

@@ -1,5 +1,5 @@
 -- Where things lie on a card: document 01, "Card layout". A card is the list of its bytes. Here alone are places in it named:
--- everything else speaks of the root block, of the table and of the directory.
+-- what reads a card speaks of the root block, of the table and of the directory, and what writes one of these places.
 -- Assumes nothing.
 use Prim.Native.Nat.{ℕ, _+_, _-_, _*_, _/_, _%_}
 use mathlib.Core.List.{List, map}
@@ -11,8 +11,12 @@ use Rattle.words.specs.Words.{word}
 unfoldable pub cardLength : ℕ
 cardLength = 256 * 512
 
+-- Where block b begins.
+abbrev pub blockPlace : ℕ → ℕ
+blockPlace b = b * 512
+
 unfoldable pub blockAt : List ℕ → ℕ → List ℕ
-blockAt card b = take 512 (drop (b * 512) card)
+blockAt card b = take 512 (drop (blockPlace b) card)
 
 -- "root 255"
 unfoldable pub rootOf : List ℕ → List ℕ

@@ -1,6 +1,6 @@
 -- The table as the card's bytes give it, and its rows one after the other. Assumes nothing.
-use Prim.Native.Nat.{ℕ, _+_, _-_, _*_, _≤_, _<_}
-use mathlib.Core.Path.{_≡_, sym, ap, _∙_}
+use Prim.Native.Nat.{ℕ, _+_, _-_, _≤_, _<_}
+use mathlib.Core.Path.{_≡_, sym, _∙_}
 use mathlib.Core.Bool.{Bool, false}
 use mathlib.Core.List.{List, map}
 use mathlib.Core.Option.{none, some}
@@ -11,7 +11,6 @@ use lib.Seq.{getD-take, getD-drop, getD-set-same, getD-set-other, ext-getD}
 use Rattle.words.specs.Lists.{anyOf, numbersFrom}
 use Rattle.words.specs.Search.{lowest}
 use Rattle.words.specs.Words.{word}
-use Rattle.words.proofs.ListLaws.{range-at}
 use Rattle.words.proofs.JoinLaws.{none-range}
 use Rattle.words.proofs.PartsLaws.{numbers-length}
 use Rattle.words.proofs.SearchLaws.{lowest-nothing}
@@ -25,12 +24,6 @@ use Rattle.card_model.specs.Calls.{tableRows}
 use Rattle.card_table.specs.declared.Region.{Region}
 use Rattle.card_table.specs.declared.Region.the-variants.{System, Hidden, User}
 use Rattle.card_table.specs.Regions.{Ready, regionRows}
-
-pub entry-word : (card : List ℕ) (b : ℕ) → b < 256 → word card (130048 + 2 * b) ≡ fatEntry (tableOf card) b
-unfolding fatEntry tableOf fatPlace
-entry-word card b h =
-    let e : 0 + b ≡ b = omega arith in
-    sym (range-at (λ i. word card (fatPlace i)) 0 256 b 0 h ∙ ap (λ (i : ℕ). word card (fatPlace i)) e)
 
 -- of an entry's two bytes, as a part
 pub part-word : (card : List ℕ) (at : ℕ) → word (take (at + 2 - at) (drop at card)) 0 ≡ word card at

@@ -9,12 +9,12 @@ use words::word;
 ghost use mathlib.Core.Path.{_≡_};
 ghost use mathlib.Core.Bool.{true};
 ghost use mathlib.Core.Option.{some};
-ghost use Prim.Native.Nat.{_-_, _≤_, _<_};
+ghost use Prim.Native.Nat.{_+_, _-_, _≤_, _<_};
 ghost use lib.ListN.{length};
 ghost use Rattle.words.specs.Lists.{anyOf, numbersFrom};
 ghost use Rattle.words.specs.Search.{lowest};
 ghost use Rattle.verdicts.specs.Rows.{unlessRefused};
-ghost use Rattle.card_model.specs.Layout.{cardLength, rootOf, tableOf};
+ghost use Rattle.card_model.specs.Layout.{cardLength, rootOf, fatPlace, tableOf};
 ghost use Rattle.card_model.specs.Table.{magicRow, fieldsRow, rightFields, fatEntry, linkOf, systemEntry, freeOrDamaged, isBad};
 ghost use Rattle.card_model.specs.Calls.{tableRows};
 ghost use Rattle.card_table.specs.Regions.{wrongIn, Ready, regionRows};
@@ -33,12 +33,20 @@ pub(crate) enum Region {
     User,
 }
 
+// Where the table's entry of a block begins.
+pub fn fat_place(b: usize) -> usize
+    requires { ⌜ b < 256 ⌝ }
+    ensures { λ r. ⌜ (r ≡ fatPlace b) × (r + 2 ≤ cardLength) ⌝ }
+{
+    TABLE + 2 * b
+}
+
 // The table's entry of a block, in one load: from a part of its own.
 pub fn fat_entry(card: &[u8], b: usize) -> usize
     requires { ⌜ (length (now card) ≡ cardLength) × (b < 256) ⌝ }
     ensures { λ r. ⌜ (r ≡ fatEntry (tableOf (now (card .entry))) b) × (r < 65536) ⌝ }
 {
-    let at = TABLE + 2 * b;
+    let at = fat_place(b);
     let end = at + 2;
     word(&card[at..end], 0)
 }

@@ -4,17 +4,13 @@ use mathlib.Core.Path.{_≡_, sym, ap, _∙_}
 use mathlib.Core.List.{List, _++_, append-assoc, append-nil}
 use native.Mathlib.Omega.{arith}
 use lib.ListN.{length, take, drop, length-append, length-drop, drop-of-length-le}
-use lib.Seq.{take-at, drop-at}
+use lib.Seq.{take-at}
 use borrow.Rule.Slice.PartMut.{putMid, post-is}
 use Rattle.words.specs.Words.{wordBytes}
+use Rattle.words.proofs.PartsLaws.{laid}
 use Rattle.checksum.specs.Crc.{checksumOf}
 use Rattle.flash_model.specs.UserBlock.{newBlock}
 use Rattle.flash_model.specs.Update.{withBlock}
-
--- the next part behind those that are written
-laid : (done part rest : List ℕ) (a k : ℕ) → length done ≡ a → putMid a k (done ++ rest) part ≡ done ++ part ++ drop k rest
-laid done part rest a k e =
-    rw (take-at done rest a e, drop-at done rest a e) (sym (append-assoc done part (drop k rest)))
 
 pub part-put : (image part : List ℕ) (k : ℕ) → putMid (k * 64) (k * 64 + 64 - k * 64) image part ≡ withBlock image k part
 unfolding withBlock

@@ -1,5 +1,5 @@
 -- What a joined test tells. Assumes nothing.
-use mathlib.Core.Path.{_≡_, refl}
+use mathlib.Core.Path.{_≡_, refl, sym, _∙_}
 use mathlib.Core.Bool.{Bool, true, false, _&&_, _||_, true≢false, false≢true}
 use mathlib.Core.Logic.{_⊎_, inl, inr}
 
@@ -26,3 +26,7 @@ or-true-either false b e = inr e
 pub and-false-either : (a b : Bool) → (a && b) ≡ false → (a ≡ false) ⊎ (b ≡ false)
 and-false-either true b e = inr e
 and-false-either false b e = inl refl
+
+pub or-true-first : (a b : Bool) → b ≡ false → (a || b) ≡ true → a ≡ true
+or-true-first true b f e = refl
+or-true-first false b f e = sym f ∙ e

@@ -17,7 +17,7 @@ use Rattle.words.proofs.ListLaws.{All, all-keep, none-keep}
 abbrev pub except : ℕ → List ℕ → List ℕ
 except k = keep (λ x. not (eqb x k))
 
-keep-distinct : (q : ℕ → Bool) (l : List ℕ) → Distinct l → Distinct (keep q l)
+pub keep-distinct : (q : ℕ → Bool) (l : List ℕ) → Distinct l → Distinct (keep q l)
 keep-distinct q [] d = tt
 keep-distinct q (x ∷ l) d = go (keep-distinct q l (d .1)) (q x)
   where
@@ -81,7 +81,7 @@ count-next p k n = go (p k)
     go true = omega arith
     go false = omega arith
 
-count-same : (p q : ℕ → Bool) (k n : ℕ) → ((i : ℕ) → k ≤ i → i < k + n → p i ≡ q i) → count p k n ≡ count q k n
+pub count-same : (p q : ℕ → Bool) (k n : ℕ) → ((i : ℕ) → k ≤ i → i < k + n → p i ≡ q i) → count p k n ≡ count q k n
 count-same p q k zero h = refl
 count-same p q k (suc n) h =
     let e = count-same p q (suc k) n (λ i a b. h i (omega arith) (omega arith)) in

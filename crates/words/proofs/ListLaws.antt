@@ -31,6 +31,11 @@ module _ {A : Type 0} where
   all-mono P Q f [] a = tt
   all-mono P Q f (x ∷ l) a = (f x (a .0), all-mono P Q f l (a .1))
 
+  pub all-at : (P : A → Type 0) (l : List A) (k : ℕ) → All P l → k < length l → (d : A) → P (getD l k d)
+  all-at P [] k a h d = absurd (omega arith)
+  all-at P (x ∷ l) zero a h d = a .0
+  all-at P (x ∷ l) (suc k) a h d = all-at P l k (a .1) (omega arith) d
+
   pub keep-passes : (q : A → Bool) (l : List A) → All (λ x. q x ≡ true) (keep q l)
   keep-passes q [] = tt
   keep-passes q (x ∷ l) = go (keep-passes q l) (q x) refl

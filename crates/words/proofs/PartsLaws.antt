@@ -5,7 +5,8 @@ use mathlib.Core.Path.{_≡_, refl, sym, ap, _∙_}
 use mathlib.Core.List.{List, [], _∷_, _++_, map, append-assoc, append-nil}
 use native.Mathlib.Omega.{arith}
 use lib.ListN.{length, getD, take, drop, length-map, drop-of-length-le}
-use lib.Seq.{take-at, take-length, drop-append-add, getD-append-add, ext-getD}
+use lib.Seq.{take-at, drop-at, take-length, drop-append-add, getD-append-add, ext-getD}
+use borrow.Rule.Slice.PartMut.{putMid}
 use Rattle.words.specs.Lists.{concat, numbersFrom}
 use Rattle.words.specs.Words.{word, wordBytes}
 use Rattle.words.proofs.ListLaws.{All, all-map, concat-length, range-at}
@@ -29,6 +30,13 @@ module _ {A : Type 0} where
   copied-over src dst e =
       let d : length dst ≤ length src = omega arith in
       rw (take-length src, drop-of-length-le dst d) (append-nil src)
+
+-- a part that is lent, written and back: the next one behind those that are written
+pub laid : (done part rest : List ℕ) (a k : ℕ) → length done ≡ a → putMid a k (done ++ rest) part ≡ done ++ part ++ drop k rest
+laid done part rest a k e = rw (take-at done rest a e, drop-at done rest a e) (sym (append-assoc done part (drop k rest)))
+
+pub laid-last : (done part rest : List ℕ) (a k : ℕ) → length done ≡ a → length rest ≤ k → putMid a k (done ++ rest) part ≡ done ++ part
+laid-last done part rest a k e h = laid done part rest a k e ∙ rw (drop-of-length-le rest h) (append-nil (done ++ part))
 
 pub numbers-length : (k n : ℕ) → length (numbersFrom k n) ≡ n
 numbers-length k zero = refl

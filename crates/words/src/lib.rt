@@ -2,7 +2,8 @@
 pub mod loads;
 
 ghost use mathlib.Core.Path.{_≡_};
-ghost use Prim.Native.Nat.{_+_, _<_};
+ghost use mathlib.Core.Bool.{cond};
+ghost use Prim.Native.Nat.{_+_, _≤_, _<_};
 ghost use lib.ListN.{length, replicate};
 ghost use Rattle.words.specs.Words as bytes;
 
@@ -11,6 +12,16 @@ pub fn wide(x: u8) -> usize
     ensures { λ r. ⌜ (r ≡ x) × (r < 256) ⌝ }
 {
     x as usize
+}
+
+// A test as a number to count with.
+pub fn one_if(test: bool) -> usize
+    ensures { λ r. ⌜ (r ≡ cond test 1 0) × (r ≤ 1) ⌝ }
+{
+    if test {
+        return 1;
+    }
+    0
 }
 
 // The two-byte number at place i.
@@ -55,6 +66,14 @@ pub fn fill(part: &mut [u8], value: u8)
         part[i] = value;
         i += 1;
     }
+}
+
+// Copies a run over a part of the same length.
+pub fn copy_all(run: &[u8], to: &mut [u8])
+    requires { ⌜ length (now to) ≡ length (now run) ⌝ }
+    ensures { λ _. ⌜ now (to .exit) ≡ now (run .entry) ⌝ }
+{
+    bytes::copy(run, to);
 }
 
 // Copies the 60 bytes of a page, by way of an array that overlaps neither place.

@@ -4,7 +4,7 @@ use mathlib.Core.Path.{_≡_, sym, _∙_}
 use mathlib.Core.Bool.{true, false}
 use mathlib.Core.List.{List}
 use borrow.Author.Tests.{not-true, not-false}
-use Rattle.card_model.specs.Entries.{isUsed, wrongKind, wrongFlag, wrongFirst, wrongSize, wrongEntry}
+use Rattle.card_model.specs.Entries.{flag, isUsed, wrongKind, wrongFlag, wrongFirst, wrongSize, wrongEntry}
 use borrow.Author.Needs.{needs}
 use Rattle.card_directory.proofs.entry.wrong_entry.Statement.{statement}
 use Rattle.card_directory.proofs.entry.wrong_entry.Tie as tie
@@ -24,9 +24,10 @@ right-kind : (c : tie.Else2) → wrongKind (entry (used c)) ≡ false
 right-kind c = sym (c .before .wrong-kind .ensures) ∙ c .if2 .left
 
 abbrev kind-right : tie.Else3 → tie.Else2
-kind-right c = c .before .before
+kind-right c = c .before .before .before
 
-right-flag : (c : tie.Else3) → wrongFlag (entry (used (kind-right c))) ≡ false
+right-flag : (c : tie.Else3) → wrongFlag (flag (entry (used (kind-right c)))) ≡ false
+unfolding flag
 right-flag c = sym (c .before .wrong-flag .ensures) ∙ c .if3 .left
 
 abbrev flag-right : tie.Else4 → tie.Else3
@@ -50,9 +51,9 @@ unfolding wrongEntry
 returns-2 c = rw (is-used (c .before .before), sym (c .before .wrong-kind .ensures) ∙ c .if2 .taken)
 
 returns-3 : tie.Need-returns-3
-unfolding wrongEntry
+unfolding wrongEntry flag
 returns-3 c =
-    let k = c .before .before in
+    let k = c .before .before .before in
     rw (is-used (used k), right-kind k, sym (c .before .wrong-flag .ensures) ∙ c .if3 .taken)
 
 returns-4 : tie.Need-returns-4
@@ -86,6 +87,7 @@ wrong-entry-spec =
     returns
     (λ c κs. search needs)
     returns-2
+    (λ c. search needs)
     (λ c κs. search needs)
     returns-3
     (λ c κs. search needs)
