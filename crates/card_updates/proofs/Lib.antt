@@ -1,0 +1,17 @@
+pub mod ComputedLaws
+pub mod ExampleLaws
+pub mod NamedBytes
+pub mod PartLaws
+pub mod PlaceLaws
+pub mod ReplaceLaws
+pub mod DeleteLaws
+pub mod CountLaws
+pub mod RoomLaws
+pub mod FileLaws
+pub mod SortLaws
+pub mod PlacedLaws
+pub mod WriteLaws
+pub mod FirstWrongLaws
+pub mod RefusalLaws
+pub mod ReadLaws
+pub mod TheoremLaws
