@@ -1,9 +1,10 @@
-"""A model of a memory card, written from document 01 and its sources 002 and 003 alone, and the expected values of
+"""A model of a memory card, written from documents 01 and 02 and their sources 002 and 003 alone, and the expected values of
 crates/samples/specs/CardSamples.antt: run as a program it prints one line for each row of that table, in its order.
 
 A card is its bytes, a table the list of its 256 numbers, a directory the list of its entries of 32 bytes. A place is
 ("whole", 0), ("block", n) or ("entry", n); a refusal is a number and a place; GOOD is no refusal."""
 import struct
+from collections import namedtuple
 
 FREE, DAMAGED, LAST = 0xFFFC, 0xFFFF, 0xFFFA
 USER, HIDDEN, SYSTEM = range(200), range(200, 241), range(241, 256)
@@ -132,7 +133,7 @@ def orphans(table, directory):
     return sum(table[b] not in (FREE, DAMAGED) and b not in in_files for b in USER)
 
 
-# The three calls.
+# The calls.
 
 
 def card_refusal(card):
@@ -182,6 +183,62 @@ def read_block(card, name, index, buffer_length):
         return (*refused, None)
     found = next(f for i, f in used_files(directory_of(card)) if f.name == name)
     return (*GOOD, block(card, chain(table_of(card), found.first, found.size)[index]))
+
+
+NewFile = namedtuple("NewFile", "name flag time offset data")
+
+
+def free_blocks(table):
+    return [b for b in USER if table[b] == FREE]
+
+
+def write_refusal(table, directory, new):
+    size, rest = divmod(len(new.data), 512)
+    if len(new.name) != 12 or len(new.time) != 8 or rest != 0 or not 1 <= size <= 200:
+        return 33, WHOLE
+    if new.flag not in (0x00, 0xFF) or new.offset >= size:
+        return 26, WHOLE
+    for i, f in used_files(directory):
+        if f.name == new.name:
+            return 29, ("entry", i)
+    return (34, WHOLE) if len(free_blocks(table)) < size else GOOD
+
+
+def put_entry(card, i, entry):
+    b, at = entry_place(i)
+    card[b * 512 + at : b * 512 + at + 32] = entry
+
+
+def write_file(card, new):
+    """Number and place. Where it is not refused the card, a bytearray, has the file."""
+    refused = card_refusal(card)
+    if refused == GOOD:
+        refused = write_refusal(table_of(card), directory_of(card), new)
+    if refused != GOOD:
+        return refused
+    size = len(new.data) // 512
+    blocks = free_blocks(table_of(card))[::-1][:size]
+    for k, b in enumerate(blocks):
+        card[b * 512 : b * 512 + 512] = block(new.data, k)
+        struct.pack_into("<H", card, TABLE * 512 + 2 * b, LAST if k + 1 == size else blocks[k + 1])
+    unused = next(i for i, entry in enumerate(directory_of(card)) if not Fields(entry).used)
+    fields = DATA, new.flag, blocks[0], new.name, new.time, size, new.offset
+    put_entry(card, unused, struct.pack("<BBH12s8sHH4x", *fields))
+    return GOOD
+
+
+def delete_file(card, name):
+    """Number and place. Where it is not refused the card, a bytearray, no longer has the file."""
+    refused = card_refusal(card)
+    if refused == GOOD:
+        refused = read_refusal(directory_of(card), name, 0, 512)
+    if refused != GOOD:
+        return refused
+    i, found = next((i, f) for i, f in used_files(directory_of(card)) if f.name == name)
+    for b in chain(table_of(card), found.first, found.size):
+        struct.pack_into("<H", card, TABLE * 512 + 2 * b, FREE)
+    put_entry(card, i, bytes(32))
+    return GOOD
 
 
 # Roots, tables, entries and cards for the samples.

@@ -1,11 +1,14 @@
 //! A 128 KiB memory card: 256 blocks of 512 bytes. Blocks 0 to 199 hold
 //! files, 241 to 253 the directory, 254 the allocation table, 255 the root.
 
+mod changes;
 mod directory;
 mod files;
 mod table;
 #[cfg(test)]
 mod tests;
+
+pub use changes::{delete, write, NewFile};
 
 use directory::Directory;
 use table::Table;
@@ -22,6 +25,7 @@ const DIRECTORY_BLOCKS: usize = FIRST_DIRECTORY_BLOCK - LAST_DIRECTORY_BLOCK + 1
 const TABLE_BLOCK: usize = 254;
 const ROOT_BLOCK: usize = 255;
 const NAME: usize = 12;
+const TIME: usize = 8;
 
 const FORMATTED: [u8; 16] = [0x55; 16];
 /// Places and values of the root fields that are tested: location and size
@@ -48,6 +52,7 @@ const WRONG_GAME: u32 = 30;
 const NO_SUCH_FILE: u32 = 31;
 const WRONG_INDEX: u32 = 32;
 const WRONG_BUFFER: u32 = 33;
+const NO_ROOM: u32 = 34;
 
 /// What part of the card a refusal is about.
 #[derive(Debug, Clone, Copy, PartialEq, Eq)]
@@ -63,7 +68,7 @@ pub enum Place {
 /// Why a call did nothing.
 #[derive(Debug, Clone, Copy, PartialEq, Eq)]
 pub struct Refusal {
-    /// The number of the reason, 20 to 33.
+    /// The number of the reason, 20 to 34.
     pub number: u32,
     /// Where it was found.
     pub place: Place,
@@ -104,7 +109,7 @@ pub struct Entry {
     /// The name as stored.
     pub name: [u8; NAME],
     /// The creation time as stored.
-    pub time: [u8; 8],
+    pub time: [u8; TIME],
 }
 
 /// Tests the whole card. Gives the number of orphans: user blocks that are
@@ -132,8 +137,7 @@ pub fn read(card: &[u8], name: &[u8], index: u64, block: &mut [u8]) -> Result<()
     }
     let (_, file) = volume
         .directory
-        .records()
-        .find(|(_, record)| record.name() == name)
+        .find(name)
         .ok_or(Refusal::whole(NO_SUCH_FILE))?;
     if index >= u64::from(file.size()) {
         return Err(Refusal::whole(WRONG_INDEX));

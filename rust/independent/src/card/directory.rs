@@ -1,11 +1,11 @@
 //! The directory: 208 entries of 32 bytes, used or not.
 
 use super::{
-    block_of, Entry, Refusal, BLOCK, CARD, DIRECTORY_BLOCKS, FIRST_DIRECTORY_BLOCK, NAME,
-    USER_BLOCKS, WRONG_RECORD,
+    block_of, Entry, NewFile, Refusal, BLOCK, CARD, DIRECTORY_BLOCKS, FIRST_DIRECTORY_BLOCK, NAME,
+    TIME, USER_BLOCKS, WRONG_RECORD,
 };
 
-const RECORD: usize = 32;
+pub(super) const RECORD: usize = 32;
 const RECORDS_PER_BLOCK: usize = BLOCK / RECORD;
 const RECORDS: usize = DIRECTORY_BLOCKS * RECORDS_PER_BLOCK;
 
@@ -49,7 +49,7 @@ impl<'a> Record<'a> {
         self.bytes_at(0x04)
     }
 
-    fn time(self) -> [u8; 8] {
+    fn time(self) -> [u8; TIME] {
         self.bytes_at(0x10)
     }
 
@@ -77,7 +77,7 @@ impl<'a> Record<'a> {
             _ => return false,
         };
         offset_fits
-            && matches!(self.flag(), COPY_ALLOWED | COPY_PROTECTED)
+            && is_copy_flag(self.flag())
             && self.first() < USER_BLOCKS
             && (1..=USER_BLOCKS).contains(&self.size())
     }
@@ -94,6 +94,31 @@ impl<'a> Record<'a> {
             time: self.time(),
         }
     }
+}
+
+pub(super) fn is_copy_flag(flag: u8) -> bool {
+    matches!(flag, COPY_ALLOWED | COPY_PROTECTED)
+}
+
+/// The entry of a new data file, whose offset is below its size. Its reserved
+/// bytes are zero.
+pub(super) fn data_record(file: &NewFile<'_>, first: u16, size: u16) -> [u8; RECORD] {
+    let mut record = [0; RECORD];
+    record[0x00] = DATA;
+    record[0x01] = file.flag;
+    record[0x02..0x04].copy_from_slice(&first.to_le_bytes());
+    record[0x04..0x10].copy_from_slice(file.name);
+    record[0x10..0x18].copy_from_slice(file.time);
+    record[0x18..0x1A].copy_from_slice(&size.to_le_bytes());
+    record[0x1A..0x1C].copy_from_slice(&(file.offset as u16).to_le_bytes());
+    record
+}
+
+/// Where an entry is stored on a card.
+pub(super) fn record_mut(card: &mut [[u8; BLOCK]], entry: u8) -> &mut [u8; RECORD] {
+    let entry = usize::from(entry);
+    let block = &mut card[FIRST_DIRECTORY_BLOCK - entry / RECORDS_PER_BLOCK];
+    &mut block.as_chunks_mut().0[entry % RECORDS_PER_BLOCK]
 }
 
 /// The used entries of a directory, all of them well formed.
@@ -125,5 +150,19 @@ impl<'a> Directory<'a> {
         self.used[..self.count]
             .iter()
             .map(|&entry| (entry, Record::at(self.card, entry.into())))
+    }
+
+    /// The used entry with this name.
+    pub(super) fn find(&self, name: &[u8]) -> Option<(u8, Record<'a>)> {
+        self.records().find(|(_, record)| record.name() == name)
+    }
+
+    /// There is one on every sound card: each file has a block of its own, and
+    /// there are fewer of these than entries.
+    pub(super) fn lowest_unused(&self) -> u8 {
+        let used = self.used[..self.count].iter();
+        used.zip(0..)
+            .take_while(|&(&used, entry)| used == entry)
+            .count() as u8
     }
 }

@@ -1,13 +1,15 @@
 //! The allocation table: for each block, what it is used for.
 
+use std::iter::successors;
+
 use super::{
     Refusal, BLOCK, BLOCKS, LAST_DIRECTORY_BLOCK, ROOT_BLOCK, TABLE_BLOCK, USER_BLOCKS,
     WRONG_HIDDEN_BLOCK, WRONG_SYSTEM_BLOCK, WRONG_USER_BLOCK,
 };
 
-const FREE: u16 = 0xFFFC;
+pub(super) const FREE: u16 = 0xFFFC;
 const DAMAGED: u16 = 0xFFFF;
-const LAST: u16 = 0xFFFA;
+pub(super) const LAST: u16 = 0xFFFA;
 const FIRST_SYSTEM_BLOCK: usize = LAST_DIRECTORY_BLOCK;
 
 pub(super) struct Table([u16; BLOCKS]);
@@ -74,4 +76,21 @@ impl Table {
         }
         (self.entry(block) == LAST).then_some(block)
     }
+
+    /// The free user blocks that aren't below `from`, rising.
+    pub(super) fn free_blocks(&self, from: u16) -> impl DoubleEndedIterator<Item = u16> + '_ {
+        (from..USER_BLOCKS).filter(|&block| self.entry(block) == FREE)
+    }
+
+    /// The blocks of the file that begins with `first`, whose chain is sound.
+    pub(super) fn chain(&self, first: u16) -> impl Iterator<Item = u16> + '_ {
+        successors(Some(first), |&block| {
+            Some(self.entry(block)).filter(|&next| next != LAST)
+        })
+    }
+}
+
+/// Gives a block another entry in the table of a card.
+pub(super) fn set_entry(card: &mut [[u8; BLOCK]], block: u16, value: u16) {
+    card[TABLE_BLOCK].as_chunks_mut().0[usize::from(block)] = value.to_le_bytes();
 }

@@ -1,3 +1,5 @@
+mod changes;
+
 use super::*;
 
 const FREE: u16 = 0xFFFC;
@@ -447,10 +449,10 @@ fn read_tests_in_order() {
 }
 
 /// The tests of the description one after the other, without any care for
-/// speed.
+/// speed, and what a call that changes a card leaves.
 mod model {
     use super::super::Place::{self, Block, Entry, Whole};
-    use super::{entry_at, DAMAGED, DATA, FREE, GAME, LAST};
+    use super::{add, entry_at, put, NewFile, DAMAGED, DATA, FREE, GAME, LAST};
 
     fn word(card: &[u8], at: usize) -> u16 {
         u16::from(card[at]) + 256 * u16::from(card[at + 1])
@@ -483,7 +485,7 @@ mod model {
             || (card[at] == DATA && word(card, at + 0x1A) >= size)
     }
 
-    type Verdict<T> = Result<T, (u32, Place)>;
+    pub type Verdict<T> = Result<T, (u32, Place)>;
 
     pub fn check(card: &[u8]) -> Verdict<u64> {
         root(card)?;
@@ -558,6 +560,62 @@ mod model {
             .filter(|&b| ![FREE, DAMAGED].contains(&link(card, b)))
             .filter(|b| !in_files.contains(b));
         orphans.count() as u64
+    }
+
+    /// The card with the file on it.
+    pub fn written(card: &[u8], file: &NewFile) -> Verdict<Vec<u8>> {
+        check(card)?;
+        let size = file.data.len() / 512;
+        let is_whole = (1..=200).contains(&size) && file.data.len() == 512 * size;
+        let has_lengths = file.name.len() == 12 && file.time.len() == 8 && is_whole;
+        refuse(33, !has_lengths)?;
+        let is_flag = file.flag == 0 || file.flag == 0xFF;
+        refuse(26, !is_flag || file.offset >= size as u64)?;
+        if let Some(entry) = named(card, file.name) {
+            return Err((29, Entry(entry as u64)));
+        }
+        let free = (0..200).rev().filter(|&b| link(card, b) == FREE);
+        let blocks: Vec<u16> = free.take(size).collect();
+        refuse(34, blocks.len() < size)?;
+        let mut card = card.to_vec();
+        let entry = (0..208).find(|&e| card[entry_at(e)] == 0).unwrap();
+        let (at, name) = (entry_at(entry), file.name.try_into().unwrap());
+        card[at..at + 32].fill(0);
+        add(&mut card, entry, DATA, name, &blocks);
+        card[at + 1] = file.flag;
+        card[at + 0x10..at + 0x18].copy_from_slice(file.time);
+        put(&mut card, at + 0x1A, file.offset as u16);
+        for (&block, content) in blocks.iter().zip(file.data.chunks(512)) {
+            card[512 * usize::from(block)..][..512].copy_from_slice(content);
+        }
+        Ok(card)
+    }
+
+    /// The card without the file of this name.
+    pub fn deleted(card: &[u8], name: &[u8]) -> Verdict<Vec<u8>> {
+        check(card)?;
+        refuse(33, name.len() != 12)?;
+        let entry = named(card, name).ok_or((31, Whole))?;
+        let blocks = chain(card, entry).unwrap();
+        let mut card = card.to_vec();
+        for block in blocks {
+            super::link(&mut card, block.into(), FREE);
+        }
+        card[entry_at(entry)..][..32].fill(0);
+        Ok(card)
+    }
+
+    fn refuse(number: u32, when: bool) -> Verdict<()> {
+        if when {
+            Err((number, Whole))
+        } else {
+            Ok(())
+        }
+    }
+
+    fn named(card: &[u8], name: &[u8]) -> Option<usize> {
+        let has_name = |at: usize| card[at] != 0 && &card[at + 4..at + 16] == name;
+        (0..208).find(|&e| has_name(entry_at(e)))
     }
 
     /// Refuses the lowest of the entries that is bad.
