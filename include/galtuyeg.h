@@ -8,7 +8,7 @@
  * What the caller answers for:
  * - A buffer is a pointer and the length behind it in bytes; so many bytes must be there, writable where the pointer is not to
  *   const. A pointer may be NULL where its length is 0, and only there.
- * - Buffers of one call must not overlap. Only two that it does not write may, as expected page and new page.
+ * - Buffers of one call must not overlap. Only those that it does not write may, as expected page and new page.
  * - Nobody else writes a lent buffer while a call runs, and nobody reads one that the call may write.
  * Nothing is kept between calls: there is no handle to open or close, and calls on buffers of their own may run at the same time.
  */
@@ -23,7 +23,7 @@ extern "C" {
 #endif
 
 /* Raised by 1 whenever a function, a struct or a number of this interface is added or changed. */
-#define GALTUYEG_VERSION 1
+#define GALTUYEG_VERSION 2
 
 /* The linked library's GALTUYEG_VERSION. Where it differs from this header's the two don't fit, and nothing else may be called. */
 uint32_t galtuyeg_version(void);
@@ -55,7 +55,8 @@ enum galtuyeg_code {
     GALTUYEG_CARD_WRONG_GAME = 30,
     GALTUYEG_CARD_NO_FILE = 31,
     GALTUYEG_CARD_WRONG_INDEX = 32,
-    GALTUYEG_CARD_WRONG_BUFFER_LENGTH = 33
+    GALTUYEG_CARD_WRONG_BUFFER_LENGTH = 33,
+    GALTUYEG_CARD_NO_ROOM = 34
 };
 
 /* A number in words; never NULL. */
@@ -95,13 +96,13 @@ static inline const char *galtuyeg_code_text(uint64_t code)
     case GALTUYEG_CARD_WRONG_USER_BLOCK:
         return "a user block's table entry is not FFFC, FFFF, FFFA or 0..199";
     case GALTUYEG_CARD_WRONG_ENTRY:
-        return "bad directory entry";
+        return "bad directory entry, or bad copy flag or header offset of a new file";
     case GALTUYEG_CARD_WRONG_CHAIN:
         return "bad chain";
     case GALTUYEG_CARD_SHARED_BLOCK:
         return "a block is also in an earlier entry's file";
     case GALTUYEG_CARD_SAME_NAME:
-        return "the name is that of an earlier used entry";
+        return "the name is that of an earlier used entry, or in use already";
     case GALTUYEG_CARD_WRONG_GAME:
         return "the game rule is broken";
     case GALTUYEG_CARD_NO_FILE:
@@ -109,7 +110,9 @@ static inline const char *galtuyeg_code_text(uint64_t code)
     case GALTUYEG_CARD_WRONG_INDEX:
         return "the block index is not below the file's size";
     case GALTUYEG_CARD_WRONG_BUFFER_LENGTH:
-        return "the name is not 12 bytes, or the block buffer not 512";
+        return "the name is not 12 bytes, the time not 8, the block buffer not 512, or the data not 1 to 200 whole blocks";
+    case GALTUYEG_CARD_NO_ROOM:
+        return "fewer user blocks are free than the file has";
     default:
         return "unknown number";
     }
@@ -158,7 +161,7 @@ uint32_t galtuyeg_flash_erase(uint8_t *image, size_t image_len, uint8_t partitio
 
 /* ---- Memory cards: images of 131,072 bytes.
  *
- * Numbers 0 and 20 to 33, 20 to 30 tested in this order. `place_kind` says what `place` is. After a refusal all values but
+ * Numbers 0 and 20 to 34, 20 to 30 tested in this order. `place_kind` says what `place` is. After a refusal all values but
  * `code`, `place_kind` and `place` are 0. */
 
 #define GALTUYEG_NAME_BYTES 12
@@ -207,6 +210,18 @@ struct galtuyeg_card_entry galtuyeg_card_list(const uint8_t *card, size_t card_l
 /* Fills `block`, 512 bytes, with block `index` of the file of this name, 12 bytes: 0, 20 to 30, then 33, 31, 32. */
 struct galtuyeg_card_verdict galtuyeg_card_read(const uint8_t *card, size_t card_len, const uint8_t *name, size_t name_len,
                                                 uint64_t index, uint8_t *block, size_t block_len);
+
+/* Puts a data file onto the card: its name, 12 bytes that no file has; copy flag, 00 or FF; time, 8 bytes; header offset in
+ * blocks, below the size; data, 1 to 200 blocks of 512. It takes the highest free blocks, from the highest down, and the
+ * lowest unused directory entry. 0, 20 to 30, then 33, 26, 29, 34: here 26 names the whole card, and 29 the entry that has the
+ * name. */
+struct galtuyeg_card_verdict galtuyeg_card_write(uint8_t *card, size_t card_len, const uint8_t *name, size_t name_len,
+                                                 uint8_t flag, const uint8_t *time, size_t time_len, uint64_t offset,
+                                                 const uint8_t *data, size_t data_len);
+
+/* Takes the file of this name, 12 bytes, data or game, off the card: its blocks become free and keep their bytes, its directory
+ * entry becomes zeros. 0, 20 to 30, then 33, 31. */
+struct galtuyeg_card_verdict galtuyeg_card_delete(uint8_t *card, size_t card_len, const uint8_t *name, size_t name_len);
 
 #ifdef __cplusplus
 }

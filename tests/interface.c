@@ -9,8 +9,13 @@
 
 #define PARTITION_BYTES 32768
 #define CARD_BYTES 131072
+#define MOST_BLOCKS 200
 
 static int tested = 0;
+
+/* What is written: the first bytes of these. Both are longer than a write takes. */
+static const uint8_t time_bytes[GALTUYEG_TIME_BYTES + 1] = {0x19, 0x99, 0x11, 0x15, 0x23, 0x59, 0x58, 0x00};
+static uint8_t data[(MOST_BLOCKS + 1) * GALTUYEG_BLOCK_BYTES];
 
 #define CHECK(fact) check((fact), #fact, __LINE__)
 
@@ -36,30 +41,41 @@ static void format_partition(uint8_t *image)
     memcpy(image, "KATANA_FLASH____\x03\x01", 18);
 }
 
-/* A card with one data file of one block, `SAVE________` in block 199, and one orphan, block 0. */
-static void format_card(uint8_t *card)
+static void put_link(uint8_t *card, unsigned block, unsigned link)
 {
-    uint8_t *table = card + 254 * 512;
+    put_word(card + 254 * 512 + 2 * block, link);
+}
+
+/* A card with no file. */
+static void blank_card(uint8_t *card)
+{
     uint8_t *root = card + 255 * 512;
-    uint8_t *entry = card + 253 * 512;
     unsigned block;
 
     memset(card, 0, CARD_BYTES);
     for (block = 0; block < 241; block++)
-        put_word(table + 2 * block, 0xFFFC);
+        put_link(card, block, 0xFFFC);
     for (block = 242; block < 254; block++)
-        put_word(table + 2 * block, block - 1);
-    put_word(table + 2 * 241, 0xFFFA);
-    put_word(table + 2 * 254, 0xFFFA);
-    put_word(table + 2 * 255, 0xFFFA);
-    put_word(table + 2 * 199, 0xFFFA);
-    put_word(table + 2 * 0, 0xFFFA);
+        put_link(card, block, block - 1);
+    put_link(card, 241, 0xFFFA);
+    put_link(card, 254, 0xFFFA);
+    put_link(card, 255, 0xFFFA);
     memset(root, 0x55, 16);
     put_word(root + 0x46, 254);
     put_word(root + 0x48, 1);
     put_word(root + 0x4A, 253);
     put_word(root + 0x4C, 13);
     put_word(root + 0x50, 200);
+}
+
+/* A card with one data file of one block, `SAVE________` in block 199, and one orphan, block 0. */
+static void format_card(uint8_t *card)
+{
+    uint8_t *entry = card + 253 * 512;
+
+    blank_card(card);
+    put_link(card, 199, 0xFFFA);
+    put_link(card, 0, 0xFFFA);
     entry[0] = 0x33;
     entry[1] = 0xFF;
     put_word(entry + 2, 199);
@@ -78,11 +94,12 @@ static void version_and_texts(void)
     CHECK(strcmp(unknown, "unknown number") == 0);
     for (code = 0; code < 100; code++) {
         int known = code <= GALTUYEG_FLASH_CHANGED
-            || (code >= GALTUYEG_CARD_WRONG_LENGTH && code <= GALTUYEG_CARD_WRONG_BUFFER_LENGTH);
+            || (code >= GALTUYEG_CARD_WRONG_LENGTH && code <= GALTUYEG_CARD_NO_ROOM);
         CHECK((strcmp(galtuyeg_code_text(code), unknown) != 0) == known);
     }
     CHECK(strcmp(galtuyeg_code_text(5), "an allocated user block follows a free one") == 0);
     CHECK(strcmp(galtuyeg_code_text(28), "a block is also in an earlier entry's file") == 0);
+    CHECK(strcmp(galtuyeg_code_text(34), "fewer user blocks are free than the file has") == 0);
 }
 
 static void flash_calls(uint8_t *image, uint8_t *before)
@@ -161,20 +178,232 @@ static void card_calls(uint8_t *card)
     CHECK(galtuyeg_card_read(card, CARD_BYTES, name, 12, 1, block, sizeof block).code == 32);
     CHECK(galtuyeg_card_read(card, CARD_BYTES, NULL, 0, 0, NULL, 0).code == 33);
 
-    put_word(card + 254 * 512 + 2 * 7, 255);
+    put_link(card, 7, 255);
     checked = galtuyeg_card_check(card, CARD_BYTES);
     CHECK(checked.code == 25 && checked.place_kind == GALTUYEG_BLOCK && checked.place == 7 && checked.orphans == 0);
-    put_word(card + 254 * 512 + 2 * 7, 0xFFFC);
+    put_link(card, 7, 0xFFFC);
     card[253 * 512 + 0x18] = 2;
     read = galtuyeg_card_read(card, CARD_BYTES, name, 12, 0, block, sizeof block);
     CHECK(read.code == 27 && read.place_kind == GALTUYEG_DIRECTORY_ENTRY && read.place == 0);
     CHECK(block[0] == 0xA5 && block[511] == 0xA5);
 }
 
+/* What a write is given; time and data are the first bytes of `time_bytes` and `data`. */
+struct new_file {
+    const char *name;
+    size_t name_len;
+    uint8_t flag;
+    size_t time_len;
+    uint64_t offset;
+    size_t data_len;
+};
+
+static struct galtuyeg_card_verdict write_file(uint8_t *card, struct new_file file)
+{
+    return galtuyeg_card_write(card, CARD_BYTES, (const uint8_t *)file.name, file.name_len, file.flag, time_bytes, file.time_len,
+                               file.offset, data, file.data_len);
+}
+
+static struct galtuyeg_card_verdict delete_file(uint8_t *card, const char *name, size_t name_len)
+{
+    return galtuyeg_card_delete(card, CARD_BYTES, (const uint8_t *)name, name_len);
+}
+
+static int at_card(struct galtuyeg_card_verdict verdict, uint64_t code)
+{
+    return verdict.code == code && verdict.place_kind == GALTUYEG_WHOLE_CARD && verdict.place == 0;
+}
+
+static int at_entry(struct galtuyeg_card_verdict verdict, uint64_t code, uint64_t entry)
+{
+    return verdict.code == code && verdict.place_kind == GALTUYEG_DIRECTORY_ENTRY && verdict.place == entry;
+}
+
+/* Block 198 is damaged and 196 an orphan, so three blocks go into 199, 197 and 195. Entry 0 is unused, with rubbish in it. */
+static void card_write(uint8_t *card, uint8_t *expected)
+{
+    static const unsigned blocks[] = {199, 197, 195};
+    uint8_t block[GALTUYEG_BLOCK_BYTES];
+    struct galtuyeg_card_entry entry;
+    unsigned i;
+
+    blank_card(card);
+    put_link(card, 198, 0xFFFF);
+    put_link(card, 196, 0xFFFA);
+    memset(card + 253 * 512 + 1, 0xEE, 31);
+    memcpy(expected, card, CARD_BYTES);
+    for (i = 0; i < 3; i++) {
+        put_link(expected, blocks[i], i < 2 ? blocks[i + 1] : 0xFFFA);
+        memcpy(expected + blocks[i] * 512, data + i * 512, 512);
+    }
+    memcpy(expected + 253 * 512,
+           "\x33\xFF\xC7\x00THREE_BLOCKS\x19\x99\x11\x15\x23\x59\x58\x00\x03\x00\x02\x00\x00\x00\x00\x00", 32);
+    CHECK(at_card(write_file(card, (struct new_file){"THREE_BLOCKS", 12, 0xFF, 8, 2, 3 * 512}), 0));
+    CHECK(memcmp(card, expected, CARD_BYTES) == 0);
+
+    CHECK(galtuyeg_card_check(card, CARD_BYTES).orphans == 1);
+    entry = galtuyeg_card_list(card, CARD_BYTES, 0);
+    CHECK(entry.code == 0 && entry.entry == 0 && entry.type == 0x33 && entry.flag == 0xFF && entry.first == 199);
+    CHECK(entry.size == 3 && entry.offset == 2 && memcmp(entry.time, time_bytes, 8) == 0);
+    for (i = 0; i < 3; i++) {
+        CHECK(galtuyeg_card_read(card, CARD_BYTES, entry.name, 12, i, block, sizeof block).code == 0);
+        CHECK(memcmp(block, data + i * 512, 512) == 0);
+    }
+}
+
+/* After card_write. */
+static void card_write_refused(uint8_t *card, uint8_t *before)
+{
+    CHECK(at_card(write_file(card, (struct new_file){"ONE_BLOCK___", 12, 0x00, 8, 0, 512}), 0));
+    memcpy(before, card, CARD_BYTES);
+
+    CHECK(at_entry(write_file(card, (struct new_file){"THREE_BLOCKS", 12, 0x00, 8, 0, 512}), 29, 0));
+    CHECK(at_entry(write_file(card, (struct new_file){"ONE_BLOCK___", 12, 0x00, 8, 0, 200 * 512}), 29, 1));
+
+    CHECK(at_card(write_file(card, (struct new_file){"ONE_BLOCK___", 12, 0x01, 8, 0, 512}), 26));
+    CHECK(at_card(write_file(card, (struct new_file){"NEW_FILE____", 12, 0xFE, 8, 0, 512}), 26));
+    CHECK(at_card(write_file(card, (struct new_file){"NEW_FILE____", 12, 0x00, 8, 3, 3 * 512}), 26));
+    CHECK(at_card(write_file(card, (struct new_file){"NEW_FILE____", 12, 0x00, 8, 65536, 3 * 512}), 26));
+    CHECK(at_card(write_file(card, (struct new_file){"NEW_FILE____", 12, 0x00, 8, (uint64_t)1 << 32, 3 * 512}), 26));
+    CHECK(at_card(write_file(card, (struct new_file){"NEW_FILE____", 12, 0x00, 8, UINT64_MAX, 3 * 512}), 26));
+
+    CHECK(at_card(write_file(card, (struct new_file){"NEW_FILE____", 11, 0x01, 8, 0, 512}), 33));
+    CHECK(at_card(write_file(card, (struct new_file){"NEW_FILE____", 13, 0x00, 8, 0, 512}), 33));
+    CHECK(at_card(write_file(card, (struct new_file){"NEW_FILE____", 12, 0x00, 7, 0, 512}), 33));
+    CHECK(at_card(write_file(card, (struct new_file){"NEW_FILE____", 12, 0x00, 9, 0, 512}), 33));
+    CHECK(at_card(write_file(card, (struct new_file){"NEW_FILE____", 12, 0x00, 8, 0, 0}), 33));
+    CHECK(at_card(write_file(card, (struct new_file){"NEW_FILE____", 12, 0x00, 8, 0, 511}), 33));
+    CHECK(at_card(write_file(card, (struct new_file){"NEW_FILE____", 12, 0x00, 8, 0, 513}), 33));
+    CHECK(at_card(write_file(card, (struct new_file){"NEW_FILE____", 12, 0x00, 8, 0, 201 * 512}), 33));
+
+    /* Of 200 user blocks four are in files, one is damaged, one an orphan. */
+    CHECK(at_card(write_file(card, (struct new_file){"NEW_FILE____", 12, 0x00, 8, 0, 195 * 512}), 34));
+    CHECK(memcmp(card, before, CARD_BYTES) == 0);
+    CHECK(at_card(write_file(card, (struct new_file){"NEW_FILE____", 12, 0x00, 8, 193, 194 * 512}), 0));
+    CHECK(at_card(write_file(card, (struct new_file){"ONE_MORE____", 12, 0x00, 8, 0, 512}), 34));
+}
+
+/* Every buffer NULL, a card that is not sound, and name, time and data that overlap. */
+static void card_write_pointers(uint8_t *card, uint8_t *before)
+{
+    const uint8_t *name = (const uint8_t *)"NEW_FILE____";
+    struct galtuyeg_card_verdict verdict;
+
+    format_card(card);
+    memcpy(before, card, CARD_BYTES);
+    CHECK(at_card(galtuyeg_card_write(NULL, 0, name, 12, 0, time_bytes, 8, 0, data, 512), 20));
+    CHECK(at_card(galtuyeg_card_write(card, CARD_BYTES, NULL, 0, 0, time_bytes, 8, 0, data, 512), 33));
+    CHECK(at_card(galtuyeg_card_write(card, CARD_BYTES, name, 12, 0, NULL, 0, 0, data, 512), 33));
+    CHECK(at_card(galtuyeg_card_write(card, CARD_BYTES, name, 12, 0, time_bytes, 8, 0, NULL, 0), 33));
+    CHECK(at_card(galtuyeg_card_delete(NULL, 0, name, 12), 20));
+    CHECK(at_card(galtuyeg_card_delete(card, CARD_BYTES, NULL, 0), 33));
+    CHECK(memcmp(card, before, CARD_BYTES) == 0);
+
+    put_link(card, 7, 255);
+    memcpy(before, card, CARD_BYTES);
+    verdict = galtuyeg_card_write(card, CARD_BYTES, name, 12, 0, time_bytes, 8, 0, data, 512);
+    CHECK(verdict.code == 25 && verdict.place_kind == GALTUYEG_BLOCK && verdict.place == 7);
+    verdict = galtuyeg_card_delete(card, CARD_BYTES, (const uint8_t *)"SAVE________", 12);
+    CHECK(verdict.code == 25 && verdict.place_kind == GALTUYEG_BLOCK && verdict.place == 7);
+    CHECK(memcmp(card, before, CARD_BYTES) == 0);
+    put_link(card, 7, 0xFFFC);
+
+    CHECK(at_card(galtuyeg_card_write(card, CARD_BYTES, data, 12, 0, data + 4, 8, 0, data, 512), 0));
+    CHECK(memcmp(card + 253 * 512 + 32 + 4, data, 12) == 0 && memcmp(card + 253 * 512 + 32 + 16, data + 4, 8) == 0);
+    CHECK(memcmp(card + 198 * 512, data, 512) == 0);
+}
+
+static void card_delete(uint8_t *card, uint8_t *expected)
+{
+    blank_card(card);
+    CHECK(write_file(card, (struct new_file){"FIRST_FILE__", 12, 0x00, 8, 0, 2 * 512}).code == 0);
+    CHECK(write_file(card, (struct new_file){"SECOND_FILE_", 12, 0x00, 8, 0, 3 * 512}).code == 0);
+    memcpy(expected, card, CARD_BYTES);
+    CHECK(at_card(delete_file(card, "FIRST_FILE__", 11), 33));
+    CHECK(at_card(delete_file(card, "FIRST_FILE__", 13), 33));
+    CHECK(at_card(delete_file(card, "FIRST_FILE_?", 12), 31));
+    CHECK(memcmp(card, expected, CARD_BYTES) == 0);
+
+    put_link(expected, 199, 0xFFFC);
+    put_link(expected, 198, 0xFFFC);
+    memset(expected + 253 * 512, 0, 32);
+    CHECK(at_card(delete_file(card, "FIRST_FILE__", 12), 0));
+    CHECK(memcmp(card, expected, CARD_BYTES) == 0);
+    CHECK(at_card(delete_file(card, "FIRST_FILE__", 12), 31));
+    CHECK(memcmp(card, expected, CARD_BYTES) == 0);
+
+    /* The highest free block and the lowest unused entry are those of the file that is gone. */
+    CHECK(write_file(card, (struct new_file){"THIRD_FILE__", 12, 0x00, 8, 0, 512}).code == 0);
+    CHECK(galtuyeg_card_list(card, CARD_BYTES, 0).first == 199);
+    CHECK(memcmp(galtuyeg_card_list(card, CARD_BYTES, 0).name, "THIRD_FILE__", 12) == 0);
+    CHECK(memcmp(galtuyeg_card_list(card, CARD_BYTES, 1).name, "SECOND_FILE_", 12) == 0);
+}
+
+/* A file of every user block; then 200 files of one block, which leave no room, but unused entries. */
+static void full_card(uint8_t *card)
+{
+    char name[] = "NUMBERED___?";
+    unsigned i;
+
+    blank_card(card);
+    CHECK(at_card(write_file(card, (struct new_file){"EVERY_BLOCK_", 12, 0x00, 8, 199, 200 * 512}), 0));
+    CHECK(memcmp(card, data + 199 * 512, 512) == 0);
+    CHECK(at_card(delete_file(card, "EVERY_BLOCK_", 12), 0));
+
+    for (i = 0; i < MOST_BLOCKS; i++) {
+        name[11] = (char)i;
+        CHECK(at_card(write_file(card, (struct new_file){name, 12, 0x00, 8, 0, 512}), 0));
+    }
+    CHECK(galtuyeg_card_list(card, CARD_BYTES, 199).first == 0);
+    CHECK(galtuyeg_card_list(card, CARD_BYTES, 200).code == 31);
+    CHECK(at_card(write_file(card, (struct new_file){"ONE_MORE____", 12, 0x00, 8, 0, 512}), 34));
+}
+
+/* What a delete leaves is wiped as the manual says: by a file of zeros that takes every free block. */
+static void card_wipe(uint8_t *card)
+{
+    static const uint8_t zeros[MOST_BLOCKS * GALTUYEG_BLOCK_BYTES];
+    const uint8_t *spare = (const uint8_t *)"SPARE_NAME__";
+
+    blank_card(card);
+    CHECK(write_file(card, (struct new_file){"FIRST_FILE__", 12, 0x00, 8, 0, 2 * 512}).code == 0);
+    CHECK(write_file(card, (struct new_file){"SECOND_FILE_", 12, 0x00, 8, 0, 3 * 512}).code == 0);
+    CHECK(delete_file(card, "FIRST_FILE__", 12).code == 0);
+    CHECK(galtuyeg_card_write(card, CARD_BYTES, spare, 12, 0x00, time_bytes, 8, 0, zeros, 197 * 512).code == 0);
+    CHECK(delete_file(card, "SPARE_NAME__", 12).code == 0);
+    CHECK(memcmp(card + 198 * 512, zeros, 2 * 512) == 0 && memcmp(card + 197 * 512, data, 512) == 0);
+}
+
+static void game_delete(uint8_t *card, uint8_t *expected)
+{
+    format_card(card);
+    memcpy(expected, card, CARD_BYTES);
+    put_link(expected, 0, 0xFFFC);
+    memcpy(card + 253 * 512 + 32, "\xCC\xFF\x00\x00MINIGAME.VMS\x19\x99\x11\x15\x23\x59\x58\x00\x01\x00\x01\x00", 28);
+    CHECK(at_card(delete_file(card, "MINIGAME.VMS", 12), 0));
+    CHECK(memcmp(card, expected, CARD_BYTES) == 0);
+}
+
+static void card_changes(uint8_t *card, uint8_t *before)
+{
+    size_t i;
+
+    /* No two blocks alike, and no byte 0. */
+    for (i = 0; i < sizeof data; i++)
+        data[i] = (uint8_t)(i % 251 + 1);
+    card_write(card, before);
+    card_write_refused(card, before);
+    card_write_pointers(card, before);
+    card_delete(card, before);
+    full_card(card);
+    card_wipe(card);
+    game_delete(card, before);
+}
+
 int main(void)
 {
     uint8_t *image = malloc(PARTITION_BYTES);
-    uint8_t *before = malloc(PARTITION_BYTES);
+    uint8_t *before = malloc(CARD_BYTES);
     uint8_t *card = malloc(CARD_BYTES);
 
     if (image == NULL || before == NULL || card == NULL)
@@ -182,6 +411,7 @@ int main(void)
     version_and_texts();
     flash_calls(image, before);
     card_calls(card);
+    card_changes(card, before);
     free(image);
     free(before);
     free(card);

@@ -72,14 +72,43 @@ def try_card(program, folder):
     expect(program, [image, "A" * 12, out], 1, "refused 27 at directory entry 0: bad chain\n")
 
 
+def try_files(program, folder):
+    """A file is put onto a card and another taken off; a name in use, a file one block too long and a short card are refused."""
+    directory = [card_model.TWO_BLOCKS, card_model.B]
+    table = card_model.table_with([199, 7], [198], b60=card_model.DAMAGED)
+    card = card_model.card_with(table, directory, card_model.right_root())
+    image, out, data = folder / "card.bin", folder / "card.out", folder / "data.bin"
+    new = card_model.NewFile(b"C" * 12, 0x00, bytes.fromhex("1999111523595800"), 0, bytes(range(256)) * 4)
+
+    image.write_bytes(card)
+    data.write_bytes(new.data)
+    expect(program, [image, out, "C" * 12, data], 0, "done, 194 blocks are free\n")
+    expected = bytearray(card)
+    assert card_model.write_file(expected, new) == card_model.GOOD
+    assert out.read_bytes() == expected, "the card that the example wrote is another one"
+    expect(program, [out, out, "A" * 12], 0, "done, 196 blocks are free\n")
+    assert card_model.delete_file(expected, b"A" * 12) == card_model.GOOD
+    assert out.read_bytes() == expected, "the card that the example took a file off is another one"
+
+    in_use = "refused 29: the name is that of an earlier used entry, or in use already\n"
+    expect(program, [image, out, "A" * 12, data], 1, in_use)
+    data.write_bytes(bytes(197 * 512))
+    no_room = "refused 34: fewer user blocks are free than the file has\n196 blocks are free\n"
+    expect(program, [image, out, "C" * 12, data], 1, no_room)
+    image.write_bytes(card[1:])
+    expect(program, [image, out, "A" * 12], 1, "refused 20: the card length is not 131,072\n")
+    assert out.read_bytes() == expected, "a refused call wrote a card"
+
+
 def main(library):
-    partition, card = programs("c")
+    partition, card, files = programs("c")
     (python,) = programs("python")
     assert python == (HERE / "ctypes_example.py").read_text(encoding="utf-8"), "the manual's Python program is another one"
     with tempfile.TemporaryDirectory() as name:
         folder = pathlib.Path(name)
         try_partition(compiled(partition, folder / "partition.c", library), folder)
         try_card(compiled(card, folder / "card.c", library), folder)
+        try_files(compiled(files, folder / "files.c", library), folder)
     print("manual: its programs run as expected")
 
 

@@ -12,15 +12,18 @@ use answers::ReportAnswer;
 use answers::card_verdict_of;
 use answers::next_live_of;
 use answers::report_of;
+use card::DataNumbers;
 ghost use mathlib.Core.Path.{_≡_};
 ghost use mathlib.Core.List.{[], _∷_};
 ghost use Rattle.flash_model.specs.Calls.{Answered, replyTo, Call.onPage, Call.onWhole, PageCall.read, PageCall.save, WholeCall.check, WholeCall.report, WholeCall.nextLive, WholeCall.erase};
 ghost use Rattle.flash.specs.Answers.{codeAnswer};
 ghost use Rattle.card_model.specs.Calls.{checkOf, listOf, readVerdict, readBuffer};
+ghost use Rattle.card_updates.specs.Delete.{deleteVerdict, deleted};
+ghost use Rattle.card_updates.specs.Write.{givenFile, writeVerdict, written};
 ghost use Rattle.capi.specs.Interface.{interfaceVersion};
 ghost use Rattle.capi.specs.Structs.{reportOf, nextLiveOf, cardCheckOf, cardEntryOf, cardVerdictOf};
 
-const INTERFACE_VERSION: u32 = 1;
+const INTERFACE_VERSION: u32 = 2;
 
 #[no_mangle]
 pub extern "C" fn galtuyeg_version() -> u32
@@ -130,4 +133,31 @@ pub extern "C" fn galtuyeg_card_read(
     ensures { λ _. ⌜ now (block .exit) ≡ readBuffer (now (card .entry)) (now (name .entry)) index (now (block .entry)) ⌝ }
 {
     card_verdict_of(card::read(card, name, index as usize, block))
+}
+
+#[no_mangle]
+pub extern "C" fn galtuyeg_card_write(
+    card: &mut [u8],
+    name: &[u8],
+    flag: u8,
+    time: &[u8],
+    offset: u64,
+    content: &[u8],
+) -> CardVerdictAnswer
+    ensures { λ r. ⌜ r ≡ cardVerdictOf (writeVerdict (now (card .entry)) (givenFile flag (now (name .entry)) (now (time .entry)) (now (content .entry))) offset) ⌝ }
+    ensures { λ _. ⌜ now (card .exit) ≡ written (now (card .entry)) (givenFile flag (now (name .entry)) (now (time .entry)) (now (content .entry))) offset ⌝ }
+{
+    let numbers = DataNumbers {
+        flag,
+        offset: offset as usize,
+    };
+    card_verdict_of(card::write(card, name, time, numbers, content))
+}
+
+#[no_mangle]
+pub extern "C" fn galtuyeg_card_delete(card: &mut [u8], name: &[u8]) -> CardVerdictAnswer
+    ensures { λ r. ⌜ r ≡ cardVerdictOf (deleteVerdict (now (card .entry)) (now (name .entry))) ⌝ }
+    ensures { λ _. ⌜ now (card .exit) ≡ deleted (now (card .entry)) (now (name .entry)) ⌝ }
+{
+    card_verdict_of(card::delete(card, name))
 }

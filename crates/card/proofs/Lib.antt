@@ -1,2 +1,4 @@
 pub mod AnswerLaws
+pub mod WriteLaws
+pub mod DeleteLaws
 pub mod ReadLaws

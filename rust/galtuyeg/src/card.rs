@@ -1,7 +1,7 @@
 //! VMU memory cards: images of 131,072 bytes, 256 blocks of 512.
 //!
 //! ```
-//! use galtuyeg::card::{self, Place, Reason};
+//! use galtuyeg::card::{self, NewFile, Place, Reason};
 //!
 //! # let mut bytes = vec![0; 131_072];
 //! # bytes[130_560..130_576].fill(0x55);
@@ -28,6 +28,19 @@
 //!     assert_eq!(file.len(), usize::from(entry.size) * card::BLOCK_BYTES);
 //! }
 //!
+//! // A copy of it is written under another name, and the file itself deleted.
+//! let data = card::read_file(card, b"SETTINGS.DAT")?;
+//! let time = [0x19, 0x99, 0x11, 0x15, 0x23, 0x59, 0x58, 0x00];
+//! let copy = NewFile { name: *b"SETTINGS.BAK", flag: 0x00, time, offset: 0, data: &data };
+//! card::write(card, &copy)?;
+//! card::delete(card, b"SETTINGS.DAT")?;
+//! assert_eq!(card::read_file(card, &copy.name)?, data);
+//!
+//! // The name is in use now, by directory entry 1.
+//! let refusal = card::write(card, &copy).unwrap_err();
+//! assert_eq!(refusal.reason, Reason::SameName);
+//! assert_eq!(refusal.place, Place::Entry(1));
+//!
 //! // Its root block spoiled, it is refused, and the refusal says where.
 //! card[255 * 512] = 0;
 //! let refusal = card::check(card).unwrap_err();
@@ -52,8 +65,10 @@ pub const TIME_BYTES: usize = 8;
 pub const BLOCK_BYTES: usize = 512;
 
 /// What is wrong with a card, or with what was asked of it. [`Reason::Length`] to [`Reason::Game`] are
-/// tested in this order, each over the whole card before the next; then [`Reason::BufferLength`],
-/// [`Reason::NoFile`] and [`Reason::Index`].
+/// tested in this order, each over the whole card before the next. Then a [`read`] tests
+/// [`Reason::BufferLength`], [`Reason::NoFile`], [`Reason::Index`]; a [`write()`] [`Reason::BufferLength`],
+/// [`Reason::Entry`], [`Reason::SameName`], [`Reason::NoRoom`]; a [`delete`] [`Reason::BufferLength`],
+/// [`Reason::NoFile`].
 #[derive(Clone, Copy, Debug, PartialEq, Eq, Hash)]
 #[non_exhaustive]
 pub enum Reason {
@@ -69,13 +84,15 @@ pub enum Reason {
     HiddenBlock,
     /// 25: a table entry of a user block is none of FFFC, FFFF, FFFA and 0 to 199.
     UserBlock,
-    /// 26: a bad directory entry.
+    /// 26: a bad directory entry. With [`Place::WholeCard`], of a [`write()`]: the copy flag is neither 00
+    /// nor FF, or the header offset isn't below the size.
     Entry,
     /// 27: a chain that doesn't end at the file's size.
     Chain,
     /// 28: a block that is in an earlier entry's file also.
     SharedBlock,
-    /// 29: an earlier entry's name.
+    /// 29: an earlier entry's name. Of a [`write()`] also: the name is in use, and the place is the entry
+    /// that has it.
     SameName,
     /// 30: a game that isn't the only one, or isn't blocks 0 and up in order, or is above 128 blocks.
     Game,
@@ -83,9 +100,12 @@ pub enum Reason {
     NoFile,
     /// 32: the block index isn't below the file's size.
     Index,
-    /// 33: name or block buffer of the wrong length. No function of this module is refused so, since its
-    /// types have the length; [`raw`]'s are.
+    /// 33: name, time, block buffer or data of the wrong length. In this module only a [`write()`] is
+    /// refused so, where its data isn't 1 to 200 whole blocks: its types have the other lengths. [`raw`]'s
+    /// functions are refused for each.
     BufferLength,
+    /// 34: fewer user blocks are free than the file has.
+    NoRoom,
 }
 
 impl Reason {
@@ -105,9 +125,10 @@ impl Reason {
         Reason::NoFile,
         Reason::Index,
         Reason::BufferLength,
+        Reason::NoRoom,
     ];
 
-    /// The paper's number, 20 to 33.
+    /// The paper's number, 20 to 34.
     pub fn number(self) -> u32 {
         match self {
             Reason::Length => 20,
@@ -124,6 +145,7 @@ impl Reason {
             Reason::NoFile => 31,
             Reason::Index => 32,
             Reason::BufferLength => 33,
+            Reason::NoRoom => 34,
         }
     }
 
@@ -142,14 +164,17 @@ impl fmt::Display for Reason {
             Reason::SystemBlock => "a system block's table entry is wrong",
             Reason::HiddenBlock => "a hidden block's table entry is neither free nor damaged",
             Reason::UserBlock => "a user block's table entry says nothing known",
-            Reason::Entry => "bad directory entry",
+            Reason::Entry => "bad directory entry, or bad copy flag or header offset of a new file",
             Reason::Chain => "the file's chain does not end at its size",
             Reason::SharedBlock => "the file has a block of an earlier file",
-            Reason::SameName => "the file has an earlier file's name",
+            Reason::SameName => {
+                "the file has an earlier file's name, or the name is in use already"
+            }
             Reason::Game => "the game is a second one, out of place or too long",
             Reason::NoFile => "no file of that name",
             Reason::Index => "the file has no block of that index",
             Reason::BufferLength => "a buffer has the wrong length",
+            Reason::NoRoom => "fewer user blocks are free than the file has",
         })
     }
 }
@@ -186,7 +211,7 @@ pub struct Refusal {
 }
 
 impl Refusal {
-    /// The paper's number, 20 to 33.
+    /// The paper's number, 20 to 34.
     pub fn number(self) -> u32 {
         self.reason.number()
     }
@@ -236,6 +261,21 @@ pub struct Entry {
     pub name: [u8; NAME_BYTES],
     /// The time as the card has it, untested.
     pub time: [u8; TIME_BYTES],
+}
+
+/// A data file to be written.
+#[derive(Clone, Copy, Debug, PartialEq, Eq, Hash)]
+pub struct NewFile<'a> {
+    /// The name, any bytes that no file of the card has for its name.
+    pub name: [u8; NAME_BYTES],
+    /// The copy flag, 00 or FF.
+    pub flag: u8,
+    /// The time, stored untested.
+    pub time: [u8; TIME_BYTES],
+    /// The header offset in blocks, below the size.
+    pub offset: u64,
+    /// [`BLOCK_BYTES`] for each of its blocks, 1 to 200 of them.
+    pub data: &'a [u8],
 }
 
 /// Whether the card is sound, and how many orphans it has.
@@ -322,6 +362,27 @@ pub fn read_file(card: &[u8], name: &[u8; NAME_BYTES]) -> Result<Vec<u8>, Refusa
         }
     }
     Ok(file)
+}
+
+/// Puts a data file onto the card: into the highest free blocks, from the highest down, and the lowest
+/// unused entry.
+///
+/// # Errors
+/// [`Refusal`] 20 to 30, then 33 for the data, 26, 29, 34. The card is then as it was.
+pub fn write(card: &mut [u8], file: &NewFile<'_>) -> Result<(), Refusal> {
+    let NewFile { name, flag, time, offset, data } = file;
+    let verdict = raw::card_write(card, name, *flag, time, *offset, data);
+    answered(verdict.code, verdict.place_kind, verdict.place)
+}
+
+/// Takes the file of this name off the card, data or game. Its blocks become free and keep their bytes;
+/// its entry becomes zeros.
+///
+/// # Errors
+/// [`Refusal`] 20 to 31. The card is then as it was.
+pub fn delete(card: &mut [u8], name: &[u8; NAME_BYTES]) -> Result<(), Refusal> {
+    let verdict = raw::card_delete(card, name);
+    answered(verdict.code, verdict.place_kind, verdict.place)
 }
 
 fn entry(listed: &raw::CardEntry) -> Entry {

@@ -68,7 +68,7 @@ pub struct CardEntry {
     pub time: [u8; 8],
 }
 
-/// What a read of a file's block answers.
+/// What a read of a file's block, a write and a delete answer.
 #[repr(C)]
 #[derive(Clone, Copy, Debug, PartialEq, Eq)]
 pub struct CardVerdict {
@@ -132,5 +132,25 @@ extern "C" {
         index: u64,
         block: *mut u8,
         block_len: usize,
+    ) -> CardVerdict;
+
+    pub(crate) fn galtuyeg_card_write(
+        card: *mut u8,
+        card_len: usize,
+        name: *const u8,
+        name_len: usize,
+        flag: u8,
+        time: *const u8,
+        time_len: usize,
+        offset: u64,
+        data: *const u8,
+        data_len: usize,
+    ) -> CardVerdict;
+
+    pub(crate) fn galtuyeg_card_delete(
+        card: *mut u8,
+        card_len: usize,
+        name: *const u8,
+        name_len: usize,
     ) -> CardVerdict;
 }

@@ -11,7 +11,7 @@ use crate::ffi;
 pub use crate::ffi::{CardChecked, CardEntry, CardVerdict, NextLive, Report};
 
 /// The library's interface that this crate was written for: `GALTUYEG_VERSION` of `include/galtuyeg.h`.
-pub const VERSION: u32 = 1;
+pub const VERSION: u32 = 2;
 
 /// The interface of the library that is linked. Where it isn't [`VERSION`] the two don't fit.
 pub fn version() -> u32 {
@@ -112,4 +112,40 @@ pub fn card_read(card: &[u8], name: &[u8], index: u64, block: &mut [u8]) -> Card
             block.len(),
         )
     }
+}
+
+/// Puts a data file onto the card: its name, 12 bytes that no file has, copy flag, 00 or FF, time, 8 bytes,
+/// header offset, below its size in blocks, and data, 1 to 200 blocks of 512: 0, 20 to 30, then 33, 26, 29,
+/// 34.
+pub fn card_write(
+    card: &mut [u8],
+    name: &[u8],
+    flag: u8,
+    time: &[u8],
+    offset: u64,
+    data: &[u8],
+) -> CardVerdict {
+    // SAFETY: each pointer and length are of one slice, borrowed for the call; only `card` is written,
+    // and it overlaps nothing, being a `&mut`.
+    unsafe {
+        ffi::galtuyeg_card_write(
+            card.as_mut_ptr(),
+            card.len(),
+            name.as_ptr(),
+            name.len(),
+            flag,
+            time.as_ptr(),
+            time.len(),
+            offset,
+            data.as_ptr(),
+            data.len(),
+        )
+    }
+}
+
+/// Takes the file of this name, 12 bytes, off the card, data or game: 0, 20 to 30, then 33, 31.
+pub fn card_delete(card: &mut [u8], name: &[u8]) -> CardVerdict {
+    // SAFETY: each pointer and length are of one slice, borrowed for the call; only `card` is written,
+    // and it overlaps nothing, being a `&mut`.
+    unsafe { ffi::galtuyeg_card_delete(card.as_mut_ptr(), card.len(), name.as_ptr(), name.len()) }
 }

@@ -1,7 +1,7 @@
 //! The typed calls on a card.
 
-use galtuyeg::card::{self, Checked, Entry, Kind, Place, Reason, Refusal};
-use inputs::card::{put, Card, File, BLOCK, CARD, DATA, GAME, LAST, ROOT, TABLE};
+use galtuyeg::card::{self, Checked, Entry, Kind, NewFile, Place, Reason, Refusal};
+use inputs::card::{put, Card, File, BLOCK, CARD, DATA, FREE, GAME, LAST, ROOT, TABLE};
 use inputs::Prng;
 
 const NAME: &[u8; 12] = b"SETTINGS.DAT";
@@ -86,7 +86,7 @@ fn a_refusal_has_number_and_place() {
     put(&mut card, TABLE + 2 * 240, 0);
     let place = card::list(&card, 0).unwrap_err().place;
     assert_eq!(place, Place::Block(240));
-    assert!(Reason::ALL.iter().map(|reason| reason.number()).eq(20..=33));
+    assert!(Reason::ALL.iter().map(|reason| reason.number()).eq(20..=34));
 }
 
 #[test]
@@ -123,4 +123,100 @@ fn two_files_may_share_neither_blocks_nor_name() {
     put(&mut card, other + 0x18, 1);
     let named = Refusal { reason: Reason::SameName, place };
     assert_eq!(card::check(&card), Err(named));
+}
+
+/// A file to be written, of this data; its name is free on [`sound`]'s card.
+fn new_file(data: &[u8]) -> NewFile<'_> {
+    let time = [0x19, 0x99, 0x11, 0x15, 0x23, 0x59, 0x58, 0x00];
+    NewFile { name: *b"SETTINGS.BAK", flag: 0xff, time, offset: 0, data }
+}
+
+/// So many blocks, no two of them alike.
+fn blocks(count: usize) -> Vec<u8> {
+    let mut data = vec![0; count * BLOCK];
+    Prng::new(1, 0).fill(&mut data);
+    data
+}
+
+#[test]
+fn a_written_file_is_listed_and_read() {
+    let mut card = sound();
+    let data = blocks(3);
+    let file = NewFile { offset: 2, ..new_file(&data) };
+    let mut expected = card.clone();
+    for (index, block) in [198, 197, 196].into_iter().enumerate() {
+        let next = if index < 2 { block as u16 - 1 } else { LAST };
+        put(&mut expected, TABLE + 2 * block, next);
+        expected[block * BLOCK..][..BLOCK].copy_from_slice(&data[index * BLOCK..][..BLOCK]);
+    }
+    let entry = Entry {
+        entry: 0,
+        kind: Kind::Data,
+        flag: 0xff,
+        first: 198,
+        size: 3,
+        offset: 2,
+        name: file.name,
+        time: file.time,
+    };
+
+    card::write(&mut card, &file).unwrap();
+    assert_eq!(card::list(&card, 0), Ok(Some(entry)));
+    assert_eq!(card::read_file(&card, &file.name), Ok(data));
+    assert_eq!(card::check(&card), Ok(Checked { orphans: 1 }));
+    expected[253 * BLOCK..][..28].copy_from_slice(&card[253 * BLOCK..][..28]);
+    assert!(card == expected);
+}
+
+#[test]
+fn a_refused_write_changes_nothing() {
+    let before = sound();
+    let (one, long) = (blocks(1), blocks(201));
+    let whole = Place::WholeCard;
+    let refused = [
+        (new_file(&[]), Reason::BufferLength, whole),
+        (new_file(&one[1..]), Reason::BufferLength, whole),
+        (new_file(&long), Reason::BufferLength, whole),
+        (NewFile { flag: 0x01, ..new_file(&one) }, Reason::Entry, whole),
+        (NewFile { offset: 1, ..new_file(&one) }, Reason::Entry, whole),
+        (NewFile { offset: 1 << 16, ..new_file(&one) }, Reason::Entry, whole),
+        (NewFile { offset: 1 << 32, ..new_file(&one) }, Reason::Entry, whole),
+        (NewFile { offset: u64::MAX, ..new_file(&one) }, Reason::Entry, whole),
+        (NewFile { name: *NAME, ..new_file(&one) }, Reason::SameName, Place::Entry(16)),
+        (new_file(&long[..198 * BLOCK]), Reason::NoRoom, whole),
+    ];
+    let mut card = before.clone();
+    for (file, reason, place) in refused {
+        assert_eq!(card::write(&mut card, &file), Err(Refusal { reason, place }));
+        assert!(card == before);
+    }
+    // Of 200 user blocks two are in a file and one is an orphan.
+    card::write(&mut card, &new_file(&long[..197 * BLOCK])).unwrap();
+    assert_eq!(card::read_file(&card, b"SETTINGS.BAK").unwrap(), long[..197 * BLOCK]);
+}
+
+#[test]
+fn a_deleted_file_leaves_its_data_alone() {
+    let mut card = sound();
+    let mut expected = card.clone();
+    put(&mut expected, TABLE + 2 * 199, FREE);
+    put(&mut expected, TABLE + 2 * 7, FREE);
+    expected[252 * BLOCK..][..32].fill(0);
+
+    card::delete(&mut card, NAME).unwrap();
+    assert!(card == expected);
+    let missing = Refusal { reason: Reason::NoFile, place: Place::WholeCard };
+    assert_eq!(card::delete(&mut card, NAME), Err(missing));
+    assert!(card == expected);
+    assert_eq!(card::check(&card), Ok(Checked { orphans: 1 }));
+}
+
+#[test]
+fn a_game_is_deleted_as_a_data_file_is() {
+    let mut card = Card::formatted(vec![0; CARD]);
+    card.add(File { entry: 0, kind: DATA, name: *NAME, blocks: vec![2] });
+    let expected = card.bytes.clone();
+    card.add(File { entry: 1, kind: GAME, name: *b"MINIGAME.VMS", blocks: vec![0, 1] });
+    card::delete(&mut card.bytes, b"MINIGAME.VMS").unwrap();
+    assert!(card.bytes == expected);
 }

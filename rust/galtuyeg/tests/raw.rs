@@ -2,6 +2,7 @@
 //! overlap.
 
 use galtuyeg::raw::{self, CardChecked, CardEntry, CardVerdict, NextLive, Report};
+use inputs::card::{Card, CARD};
 
 /// A formatted partition 3: header, and a bitmap of free blocks.
 fn formatted() -> Vec<u8> {
@@ -61,6 +62,36 @@ fn empty_slices_are_refused_by_length() {
     assert_eq!((code, name), (20, [0; 12]));
     let CardVerdict { code, .. } = raw::card_read(&[], &[], 0, &mut []);
     assert_eq!(code, 20);
+    let refused = CardVerdict { code: 20, place_kind: 0, place: 0 };
+    assert_eq!(raw::card_write(&mut [], &[], 0, &[], 0, &[]), refused);
+    assert_eq!(raw::card_delete(&mut [], &[]), refused);
+}
+
+#[test]
+fn a_card_is_written_and_refused_by_length() {
+    let mut card = Card::formatted(vec![0; CARD]).bytes;
+    let (name, time, data) = (&[b'A'; 13], &[0x20; 9], &[7; 1024]);
+    let done = CardVerdict { code: 0, place_kind: 0, place: 0 };
+    let written = raw::card_write(&mut card, &name[..12], 0xff, &time[..8], 1, data);
+    assert_eq!(written, done);
+    let mut block = [0; 512];
+    assert_eq!(raw::card_read(&card, &name[..12], 1, &mut block), done);
+    assert_eq!(block, [7; 512]);
+
+    let before = card.clone();
+    let refused = CardVerdict { code: 33, place_kind: 0, place: 0 };
+    for (name_len, time_len, data_len) in
+        [(11, 8, 512), (13, 8, 512), (12, 7, 512), (12, 9, 512), (12, 8, 0), (12, 8, 511)]
+    {
+        let (name, time, data) = (&name[..name_len], &time[..time_len], &data[..data_len]);
+        assert_eq!(raw::card_write(&mut card, name, 0, time, 0, data), refused);
+    }
+    assert_eq!(raw::card_delete(&mut card, name), refused);
+    let named = CardVerdict { code: 29, place_kind: 2, place: 0 };
+    assert_eq!(raw::card_write(&mut card, &name[..12], 0, &time[..8], 0, data), named);
+    assert!(card == before);
+    assert_eq!(raw::card_delete(&mut card, &name[..12]), done);
+    assert_eq!(raw::card_list(&card, 0).code, 31);
 }
 
 #[test]
@@ -79,4 +110,15 @@ fn shared_slices_may_overlap() {
         let saved = raw::flash_save(&mut image, 3, 0, &bytes[..long], &bytes[..60]);
         assert_eq!(saved, 8);
     }
+}
+
+#[test]
+fn name_time_and_data_may_overlap() {
+    let mut card = Card::formatted(vec![0; CARD]).bytes;
+    let bytes: Vec<u8> = (0..=255).chain(0..=255).collect();
+    let written = raw::card_write(&mut card, &bytes[1..13], 0, &bytes[5..13], 0, &bytes);
+    assert_eq!(written.code, 0);
+    let CardEntry { name, time, .. } = raw::card_list(&card, 0);
+    assert_eq!((&name[..], &time[..]), (&bytes[1..13], &bytes[5..13]));
+    assert_eq!(card[199 * 512..][..512], bytes);
 }
