@@ -5,6 +5,13 @@ use std::collections::BTreeSet;
 use inputs::card::{put, Card, File, Name, CARD, DAMAGED, DATA, ENTRIES, FREE, GAME, LAST, USER};
 use inputs::Prng;
 
+use crate::card_arguments::{any_file, any_name};
+
+/// Of so many blocks one is as good as never met.
+const NEVER: usize = usize::MAX;
+const ORPHANS: [usize; 3] = [2, 10, 1_000];
+const DAMAGE: usize = 3;
+
 /// What a card is to have.
 pub struct Shape {
     /// The game's size. One above 128 breaks a rule.
@@ -13,6 +20,10 @@ pub struct Shape {
     pub files: usize,
     /// The longest data file.
     pub longest: usize,
+    /// Of the blocks in no file, one in so many is an orphan.
+    pub orphans: usize,
+    /// Of the other ones, one in so many is damaged.
+    pub damaged: usize,
 }
 
 impl Shape {
@@ -29,13 +40,22 @@ impl Shape {
             3 => (prng.within(1..=10), 60),
             _ => (prng.within(1..=200), 4),
         };
-        Shape { game, files, longest }
+        Shape { game, files, longest, orphans: prng.pick(&ORPHANS), damaged: DAMAGE }
+    }
+
+    /// Few files or none, for others to be written beside them.
+    pub fn roomy(prng: &mut Prng) -> Shape {
+        let game = prng.one_in(4).then(|| prng.within(1..=128));
+        let (files, longest) = prng.pick(&[(0, 1), (0, 1), (3, 8), (20, 3)]);
+        let (orphans, damaged) = prng.pick(&[(NEVER, NEVER), (30, 30), (10, DAMAGE)]);
+        Shape { game, files, longest, orphans, damaged }
     }
 
     /// Some files of some blocks each, for damage to find.
     pub fn rich(prng: &mut Prng) -> Shape {
         let game = prng.one_in(2).then(|| prng.within(1..=40));
-        Shape { game, files: prng.within(3..=12), longest: prng.within(2..=12) }
+        let (files, longest) = (prng.within(3..=12), prng.within(2..=12));
+        Shape { game, files, longest, orphans: prng.pick(&ORPHANS), damaged: DAMAGE }
     }
 }
 
@@ -71,17 +91,17 @@ fn share_out(prng: &mut Prng, card: &mut Card, shape: &Shape) -> Vec<Vec<u16>> {
             chains.push(rest.split_off(rest.len() - size));
         }
     }
-    let orphans = prng.pick(&[2, 10, 1_000]);
     for block in rest {
         let next = prng.word() % USER;
         let link = prng.pick(&[LAST, next, block]);
-        let unused = prng.pick(&[FREE, FREE, DAMAGED]);
-        card.set_link(block, if prng.one_in(orphans) { link } else { unused });
+        let unused = if prng.one_in(shape.damaged) { DAMAGED } else { FREE };
+        card.set_link(block, if prng.one_in(shape.orphans) { link } else { unused });
     }
     chains
 }
 
-/// Puts the files at random entries under names of their own. Unused entries keep what is there.
+/// Puts the files at random entries under names of their own. Unused entries keep what is there, or get
+/// names.
 fn lay_files(prng: &mut Prng, card: &mut Card, chains: Vec<Vec<u16>>, game: bool) {
     let mut entries: Vec<usize> = (0..ENTRIES).collect();
     if !prng.one_in(4) {
@@ -97,12 +117,23 @@ fn lay_files(prng: &mut Prng, card: &mut Card, chains: Vec<Vec<u16>>, game: bool
         bytes[0x01] = prng.pick(&[0, 0xff]);
         put(bytes, 0x1a, if is_game { prng.word() } else { prng.below(size) as u16 });
     }
+    if prng.one_in(2) {
+        leave_names(prng, card, &entries[card.files.len()..]);
+    }
 }
 
-/// Few letters, so that names are alike but for a byte.
+/// Names in unused entries, which do not count: half of them are those of files.
+fn leave_names(prng: &mut Prng, card: &mut Card, unused: &[usize]) {
+    let files = card.listed();
+    for &entry in unused {
+        let name = if prng.one_in(2) { any_name(prng) } else { any_file(prng, &files).name };
+        card.entry_mut(entry)[0x04..0x10].copy_from_slice(&name);
+    }
+}
+
 fn new_name(prng: &mut Prng, taken: &mut BTreeSet<Name>) -> Name {
     loop {
-        let name = std::array::from_fn(|_| prng.pick(b"AAAAAB_\0"));
+        let name = any_name(prng);
         if taken.insert(name) {
             return name;
         }

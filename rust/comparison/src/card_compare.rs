@@ -1,7 +1,7 @@
 //! The card calls, each made by the proved library and by `independent`, and compared.
 
+use ::independent::card::{self as independent, NewFile};
 use galtuyeg::{card, raw};
-use independent::card as independent;
 use inputs::answers::{checked, no_entry, Answer, DONE};
 
 use crate::lent;
@@ -79,6 +79,65 @@ pub fn read(round: &mut Round, image: &mut Lent, asked: &Read) {
     case.buffer("block", &mut block, proved.code == 0);
 }
 
+pub fn write(round: &mut Round, image: &mut Lent, asked: &NewFile) {
+    let [mut name, mut time, mut data]: [Lent; 3] =
+        [asked.name, asked.time, asked.data].map(|bytes| round.lend(bytes));
+    let NewFile { flag, offset, .. } = *asked;
+    let proved = raw::card_write(
+        image.proved.get_mut(),
+        name.proved.get(),
+        flag,
+        time.proved.get(),
+        offset,
+        data.proved.get(),
+    );
+    let other = independent::write(
+        image.others[0].get_mut(),
+        &NewFile {
+            name: name.others[0].get(),
+            time: time.others[0].get(),
+            data: data.others[0].get(),
+            ..*asked
+        },
+    );
+    let (bytes, lengths) = (asked.name, (asked.time.len(), asked.data.len()));
+    let text =
+        format!("name {bytes:02x?} flag {flag} offset {offset} time and data of {lengths:?}");
+    let mut case = round.compare(Call::CardWrite, text);
+    case.answered_on(is_sound(image), proved.code);
+    case.same("verdict", proved, [other.raw()]);
+    if case.wants_typed() {
+        if let Some((verdict, left)) = typed_write(image.before(), asked) {
+            case.typed((verdict, left == image.proved.get()), (proved, true));
+        }
+    }
+    case.buffer("card", image, proved.code == 0);
+    case.buffer("name", &mut name, false);
+    case.buffer("time", &mut time, false);
+    case.buffer("data", &mut data, false);
+}
+
+pub fn delete(round: &mut Round, image: &mut Lent, asked: &[u8]) {
+    let mut name: Lent = round.lend(asked);
+    let proved = raw::card_delete(image.proved.get_mut(), name.proved.get());
+    let other = independent::delete(image.others[0].get_mut(), name.others[0].get());
+    let mut case = round.compare(Call::CardDelete, format!("name {asked:02x?}"));
+    case.answered_on(is_sound(image), proved.code);
+    case.same("verdict", proved, [other.raw()]);
+    if case.wants_typed() {
+        if let Some((verdict, left)) = typed_delete(image.before(), asked) {
+            case.typed((verdict, left == image.proved.get()), (proved, true));
+        }
+    }
+    case.buffer("card", image, proved.code == 0);
+    case.buffer("name", &mut name, false);
+}
+
+/// Whether the card passed the check before the call.
+fn is_sound(image: &Lent) -> bool {
+    independent::check(image.before()).is_ok()
+}
+
 /// The typed read's verdict and what it leaves in the buffer, if its types can say what is asked.
 fn typed_read(image: &[u8], asked: &Read) -> Option<(raw::CardVerdict, Vec<u8>)> {
     let name = asked.name.try_into().ok()?;
@@ -86,6 +145,24 @@ fn typed_read(image: &[u8], asked: &Read) -> Option<(raw::CardVerdict, Vec<u8>)>
     let answer = card::read(image, name, asked.index, &mut block);
     let verdict = answer.map_or_else(typed_verdict, |()| DONE);
     Some((verdict, block.to_vec()))
+}
+
+/// The typed write's verdict and the card it leaves, if its types can say what is asked.
+fn typed_write(image: &[u8], asked: &NewFile) -> Option<(raw::CardVerdict, Vec<u8>)> {
+    let NewFile { flag, offset, data, .. } = *asked;
+    let name = asked.name.try_into().ok()?;
+    let time = asked.time.try_into().ok()?;
+    let mut left = image.to_vec();
+    let answer = card::write(&mut left, &card::NewFile { name, flag, time, offset, data });
+    Some((answer.map_or_else(typed_verdict, |()| DONE), left))
+}
+
+/// The typed delete's verdict and the card it leaves, if its types can say what is asked.
+fn typed_delete(image: &[u8], asked: &[u8]) -> Option<(raw::CardVerdict, Vec<u8>)> {
+    let name = asked.try_into().ok()?;
+    let mut left = image.to_vec();
+    let answer = card::delete(&mut left, name);
+    Some((answer.map_or_else(typed_verdict, |()| DONE), left))
 }
 
 fn typed_verdict(refusal: card::Refusal) -> raw::CardVerdict {

@@ -1,11 +1,12 @@
 //! Rounds on memory cards.
 
-use inputs::card::{Card, BLOCK, CARD};
-use inputs::Prng;
+use inputs::card::{Listed, BLOCK, CARD};
 
+use crate::card_arguments::{any_file, any_from, any_name, nearly, Draft};
 use crate::card_builder::{build, Shape};
 use crate::card_compare::{self as compare, Lent, Read};
 use crate::card_damage::{aim, stray_bit, TARGETS};
+use crate::card_writers;
 use crate::round::Round;
 
 /// Sound cards: all entries listed, blocks read, and reads that are refused.
@@ -15,14 +16,23 @@ pub fn sound(round: &mut Round) {
     let mut image = round.lend(&card.bytes);
     compare::check(round, &mut image);
     walk_entries(round, &mut image);
-    let from = any_from(&mut round.prng);
-    compare::list(round, &mut image, from);
+    ask_list(round, &mut image);
+    let files = card.listed();
     for _ in 0..12 {
-        ask_read(round, &mut image, &card);
+        ask_read(round, &mut image, &files);
     }
     if round.prng.one_in(4) {
-        read_whole_file(round, &mut image, &card);
+        read_whole_file(round, &mut image, &files);
     }
+}
+
+/// Sound cards with a long run of writes and deletes.
+pub fn changed(round: &mut Round) {
+    let prng = &mut round.prng;
+    let shape = if prng.one_in(3) { Shape::any(prng) } else { Shape::roomy(prng) };
+    let card = build(prng, &shape);
+    let mut image = round.lend(&card.bytes);
+    card_writers::run(round, &mut image);
 }
 
 /// One damage, aimed at a refusal.
@@ -39,7 +49,7 @@ pub fn aimed(round: &mut Round) {
         aim(&mut round.prng, &mut card, target);
     }
     let mut image = round.lend(&card.bytes);
-    ask_everything(round, &mut image, &card);
+    ask_everything(round, &mut image, &card.listed());
 }
 
 /// Several damages aimed near each other, where the order of refusals and of places decides.
@@ -57,7 +67,7 @@ pub fn battered(round: &mut Round) {
         stray_bit(&mut round.prng, &mut card);
     }
     let mut image = round.lend(&card.bytes);
-    ask_everything(round, &mut image, &card);
+    ask_everything(round, &mut image, &card.listed());
 }
 
 /// Cards of every length, cut or drawn out, and blank ones.
@@ -74,14 +84,16 @@ pub fn lengths(round: &mut Round) {
         card.bytes = vec![round.prng.pick(&[0, 0x55, 0xff]); CARD];
     }
     let mut image = round.lend(&card.bytes);
-    ask_everything(round, &mut image, &card);
+    ask_everything(round, &mut image, &card.listed());
 }
 
-fn ask_everything(round: &mut Round, image: &mut Lent, card: &Card) {
+/// Every call once; the two that write come last.
+fn ask_everything(round: &mut Round, image: &mut Lent, files: &[Listed]) {
     compare::check(round, image);
-    let from = any_from(&mut round.prng);
-    compare::list(round, image, from);
-    ask_read(round, image, card);
+    ask_list(round, image);
+    ask_read(round, image, files);
+    ask_write(round, image, files);
+    ask_delete(round, image, files);
 }
 
 fn walk_entries(round: &mut Round, image: &mut Lent) {
@@ -91,37 +103,25 @@ fn walk_entries(round: &mut Round, image: &mut Lent) {
     }
 }
 
-fn any_from(prng: &mut Prng) -> u64 {
-    match prng.below(6) {
-        0 => prng.pick(&[206, 207, 208, 209, 255, 256, 1 << 16, 1 << 32, u64::MAX]),
-        1 => prng.draw() >> prng.below(64),
-        _ => prng.below(208) as u64,
-    }
-}
-
 /// All blocks of one file, as a program would.
-fn read_whole_file(round: &mut Round, image: &mut Lent, card: &Card) {
-    if card.files.is_empty() {
-        return;
-    }
-    let file = &card.files[round.prng.below(card.files.len())];
-    for index in 0..file.blocks.len() as u64 {
-        let asked = Read { name: &file.name, index, block: &[0; BLOCK] };
+fn read_whole_file(round: &mut Round, image: &mut Lent, files: &[Listed]) {
+    let Listed { name, size } = any_file(&mut round.prng, files);
+    for index in 0..size as u64 {
+        let asked = Read { name: &name, index, block: &[0; BLOCK] };
         compare::read(round, image, &asked);
     }
 }
 
+pub fn ask_list(round: &mut Round, image: &mut Lent) {
+    let from = any_from(&mut round.prng);
+    compare::list(round, image, from);
+}
+
 /// A read whose name, index and buffer are mostly right.
-fn ask_read(round: &mut Round, image: &mut Lent, card: &Card) {
+pub fn ask_read(round: &mut Round, image: &mut Lent, files: &[Listed]) {
     let prng = &mut round.prng;
-    let (mut name, size) = match card.files.len() {
-        0 => (b"AAAAAAAAAAAA".to_vec(), 1),
-        count => {
-            let file = &card.files[prng.below(count)];
-            (file.name.to_vec(), file.blocks.len() as u64)
-        }
-    };
-    spoil_name(prng, &mut name);
+    let file = any_file(prng, files);
+    let (name, size) = (nearly(prng, file.name), file.size as u64);
     let index = match prng.below(6) {
         0 => prng.pick(&[size - 1, size, size + 1, 199, 200, 256, u64::MAX]),
         1 => prng.draw() % size + prng.pick(&[1 << 8, 1 << 16, 1 << 32]),
@@ -138,12 +138,18 @@ fn ask_read(round: &mut Round, image: &mut Lent, card: &Card) {
     compare::read(round, image, &asked);
 }
 
-/// Now and then a byte off, all off, or of another length.
-fn spoil_name(prng: &mut Prng, name: &mut Vec<u8>) {
-    match prng.below(12) {
-        0 => prng.flip_bit(name),
-        1 => prng.fill(name),
-        2 => name.resize(prng.pick(&[0, 1, 11, 13, 24]), b'A'),
-        _ => {}
-    }
+/// A short file, under a name that is new or in use.
+fn ask_write(round: &mut Round, image: &mut Lent, files: &[Listed]) {
+    let prng = &mut round.prng;
+    let name = if prng.one_in(2) { any_name(prng) } else { any_file(prng, files).name };
+    let size = prng.within(1..=8);
+    let draft = Draft::any(prng, name, size);
+    compare::write(round, image, &draft.file());
+}
+
+/// One of the files, or now and then none of them.
+pub fn ask_delete(round: &mut Round, image: &mut Lent, files: &[Listed]) {
+    let file = any_file(&mut round.prng, files);
+    let name = nearly(&mut round.prng, file.name);
+    compare::delete(round, image, &name);
 }

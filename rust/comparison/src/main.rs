@@ -2,10 +2,12 @@
 //! inputs and compares every answer, every value and every byte of every buffer.
 
 mod args;
+mod card_arguments;
 mod card_builder;
 mod card_compare;
 mod card_damage;
 mod card_rounds;
+mod card_writers;
 mod flash_arguments;
 mod flash_builder;
 mod flash_compare;
@@ -28,7 +30,7 @@ use tally::Tally;
 const LEAST: u64 = 1_000;
 
 /// What the rounds do in turn.
-const TURNS: [fn(&mut Round); 20] = [
+const TURNS: [fn(&mut Round); 22] = [
     flash_rounds::lengths,
     flash_rounds::built,
     flash_rounds::built,
@@ -40,6 +42,8 @@ const TURNS: [fn(&mut Round); 20] = [
     card_rounds::lengths,
     card_rounds::sound,
     card_rounds::sound,
+    card_rounds::changed,
+    card_rounds::changed,
     card_rounds::aimed,
     card_rounds::aimed,
     card_rounds::aimed,

@@ -50,6 +50,14 @@ impl Case<'_, '_> {
         }
     }
 
+    /// Counts the number, and once more as the call's own where the card was sound before it.
+    pub fn answered_on(&mut self, card_is_sound: bool, number: u64) {
+        self.answered(number);
+        if card_is_sound {
+            self.round.tally.count_own(self.call, number);
+        }
+    }
+
     /// Compares the proved library's answer with the others', in the order of [`OTHERS`].
     pub fn same<T, const N: usize>(&mut self, what: &str, proved: T, others: [T; N])
     where

@@ -2,10 +2,11 @@
 
 use std::fmt::Write;
 
-/// Numbers run to 33, with a gap.
-const NUMBERS: usize = 34;
+/// Numbers run to 34, with a gap.
+const NUMBERS: usize = 35;
+const CALLS: usize = FLASH_CALLS.len() + CARD_CALLS.len();
 const FLASH: [u64; 10] = [0, 1, 2, 3, 4, 5, 6, 7, 8, 9];
-const CARD: [u64; 15] = [0, 20, 21, 22, 23, 24, 25, 26, 27, 28, 29, 30, 31, 32, 33];
+const CARD: [u64; 16] = [0, 20, 21, 22, 23, 24, 25, 26, 27, 28, 29, 30, 31, 32, 33, 34];
 
 #[derive(Clone, Copy, Debug, PartialEq, Eq)]
 pub enum Call {
@@ -18,6 +19,8 @@ pub enum Call {
     CardCheck,
     CardList,
     CardRead,
+    CardWrite,
+    CardDelete,
 }
 
 const FLASH_CALLS: [Call; 6] = [
@@ -28,7 +31,12 @@ const FLASH_CALLS: [Call; 6] = [
     Call::FlashSave,
     Call::FlashErase,
 ];
-const CARD_CALLS: [Call; 3] = [Call::CardCheck, Call::CardList, Call::CardRead];
+const CARD_CALLS: [Call; 5] =
+    [Call::CardCheck, Call::CardList, Call::CardRead, Call::CardWrite, Call::CardDelete];
+
+/// The calls that change a card, and what they answer where it is sound.
+const OWN: [(Call, &[u64]); 2] =
+    [(Call::CardWrite, &[0, 26, 29, 33, 34]), (Call::CardDelete, &[0, 31, 33])];
 
 impl Call {
     pub fn name(self) -> &'static str {
@@ -42,6 +50,8 @@ impl Call {
             Call::CardCheck => "card_check",
             Call::CardList => "card_list",
             Call::CardRead => "card_read",
+            Call::CardWrite => "card_write",
+            Call::CardDelete => "card_delete",
         }
     }
 
@@ -55,19 +65,26 @@ impl Call {
             Call::CardCheck => matches!(number, 0 | 20..=30),
             Call::CardList => matches!(number, 0 | 20..=31),
             Call::CardRead => matches!(number, 0 | 20..=33),
+            Call::CardWrite => matches!(number, 0 | 20..=30 | 33 | 34),
+            Call::CardDelete => matches!(number, 0 | 20..=31 | 33),
         }
     }
 }
 
+type Counts = [[u64; NUMBERS]; CALLS];
+
 pub struct Tally {
-    answers: [[u64; NUMBERS]; 9],
+    answers: Counts,
+    /// Those of the answers that were given on a sound card, by calls that change it.
+    own: Counts,
     typed: u64,
     differences: u64,
 }
 
 impl Tally {
     pub fn new() -> Tally {
-        Tally { answers: [[0; NUMBERS]; 9], typed: 0, differences: 0 }
+        let none = [[0; NUMBERS]; CALLS];
+        Tally { answers: none, own: none, typed: 0, differences: 0 }
     }
 
     /// Whether the number is one that this call may give; only then is it counted.
@@ -77,6 +94,13 @@ impl Tally {
             self.answers[call as usize][number as usize] += 1;
         }
         may_be
+    }
+
+    /// Counts a number once more, as one that was given on a sound card.
+    pub fn count_own(&mut self, call: Call, number: u64) {
+        if call.may_give(number) {
+            self.own[call as usize][number as usize] += 1;
+        }
     }
 
     pub fn count_typed(&mut self) {
@@ -91,14 +115,17 @@ impl Tally {
         self.differences
     }
 
-    /// The numbers answered fewer than `least` times, 0 counted over flash and cards apart.
+    /// The numbers answered fewer than `least` times, 0 counted over flash and cards apart, and what a
+    /// call that changes a card answers on a sound one for each such call.
     pub fn below(&self, least: u64) -> Vec<String> {
         let few = |calls: &[Call], number| self.total(calls, number) < least;
         let flash = FLASH.into_iter().filter(|&number| few(&FLASH_CALLS, number));
         let card = CARD.into_iter().filter(|&number| few(&CARD_CALLS, number));
+        let own = own_counts(&self.own).filter(|&(_, _, count)| count < least);
         flash
             .map(|number| format!("flash {number}"))
             .chain(card.map(|number| format!("card {number}")))
+            .chain(own.map(|(call, number, _)| format!("{call} {number} on a sound card")))
             .collect()
     }
 
@@ -106,6 +133,9 @@ impl Tally {
         let mut text = String::new();
         self.rows(&mut text, &FLASH_CALLS, &FLASH);
         self.rows(&mut text, &CARD_CALLS, &CARD);
+        for (call, number, count) in own_counts(&self.own) {
+            writeln!(text, "{call} {number} on a sound card: {count}").unwrap();
+        }
         let calls: u64 = self.answers.iter().flatten().sum();
         let Tally { typed, differences, .. } = self;
         writeln!(text, "calls {calls}, {typed} of them also through the typed ones").unwrap();
@@ -133,6 +163,12 @@ impl Tally {
         let answers = calls.iter().map(|&call| self.answers[call as usize][number as usize]);
         answers.sum()
     }
+}
+
+/// The counts of [`OWN`], each with the call's name and the number.
+fn own_counts(own: &Counts) -> impl Iterator<Item = (&'static str, u64, u64)> + '_ {
+    let pairs = OWN.iter().flat_map(|&(call, numbers)| numbers.iter().map(move |&n| (call, n)));
+    pairs.map(|(call, number)| (call.name(), number, own[call as usize][number as usize]))
 }
 
 #[cfg(test)]
@@ -163,10 +199,25 @@ mod tests {
             (Call::FlashSave, 7),
             (Call::CardCheck, 5),
             (Call::CardList, 32),
+            (Call::CardRead, 34),
+            (Call::CardWrite, 31),
+            (Call::CardDelete, 34),
         ];
         for (call, number) in wrong {
             assert!(!tally.count(call, number), "{} {number}", call.name());
         }
         assert!(tally.table().contains("calls 0,"));
+    }
+
+    #[test]
+    fn a_number_given_on_refused_cards_alone_is_missed() {
+        let mut tally = Tally::new();
+        for (call, numbers) in OWN {
+            assert!(numbers.iter().all(|&number| tally.count(call, number)));
+        }
+        assert_eq!(tally.below(1).iter().filter(|few| few.contains("sound")).count(), 8);
+        tally.count_own(Call::CardWrite, 29);
+        assert!(!tally.below(1).contains(&"card_write 29 on a sound card".into()));
+        assert!(tally.below(2).contains(&"card_write 29 on a sound card".into()));
     }
 }

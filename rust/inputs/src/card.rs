@@ -25,6 +25,13 @@ pub struct File {
     pub blocks: Vec<u16>,
 }
 
+/// A file's name and how many blocks it has.
+#[derive(Clone, Copy)]
+pub struct Listed {
+    pub name: Name,
+    pub size: usize,
+}
+
 /// A card's image, and its files in the order of their making.
 pub struct Card {
     pub bytes: Vec<u8>,
@@ -64,6 +71,12 @@ impl Card {
         self.files.push(file);
     }
 
+    /// What is known of the files, whatever became of the bytes.
+    pub fn listed(&self) -> Vec<Listed> {
+        let listed = |file: &File| Listed { name: file.name, size: file.blocks.len() };
+        self.files.iter().map(listed).collect()
+    }
+
     /// Links the blocks into one chain.
     pub fn chain(&mut self, blocks: &[u16]) {
         let nexts = blocks.iter().skip(1).copied().chain([LAST]);
@@ -77,9 +90,34 @@ impl Card {
     }
 
     pub fn entry_mut(&mut self, entry: usize) -> &mut [u8] {
-        let block = 253 - entry / 16;
-        &mut self.bytes[block * BLOCK + 32 * (entry % 16)..][..32]
+        &mut self.bytes[entry_at(entry)..][..32]
     }
+}
+
+/// The files of a sound card.
+pub fn listed(bytes: &[u8]) -> Vec<Listed> {
+    let used = (0..ENTRIES).filter(|&entry| bytes[entry_at(entry)] != 0);
+    let size = |entry| get(bytes, entry_at(entry) + 0x18).into();
+    used.map(|entry| Listed { name: name_at(bytes, entry), size: size(entry) }).collect()
+}
+
+/// The name in an entry, used or not.
+pub fn name_at(bytes: &[u8], entry: usize) -> Name {
+    std::array::from_fn(|at| bytes[entry_at(entry) + 0x04 + at])
+}
+
+/// How many user blocks of a card are free.
+pub fn count_free(bytes: &[u8]) -> usize {
+    let links = (0..USER.into()).map(|block| get(bytes, TABLE + 2 * block));
+    links.filter(|&link| link == FREE).count()
+}
+
+fn entry_at(entry: usize) -> usize {
+    (253 - entry / 16) * BLOCK + 32 * (entry % 16)
+}
+
+fn get(bytes: &[u8], at: usize) -> u16 {
+    u16::from_le_bytes([bytes[at], bytes[at + 1]])
 }
 
 pub fn put(bytes: &mut [u8], at: usize, value: u16) {
@@ -99,5 +137,9 @@ mod tests {
         let found = independent::card::list(&card.bytes, 0).unwrap();
         assert_eq!((found.entry, found.kind, found.name), (207, DATA, name));
         assert_eq!((found.first, found.size), (199, 2));
+        for listed in [listed(&card.bytes), card.listed()] {
+            assert!(matches!(listed[..], [Listed { size: 2, name: own }] if own == name));
+        }
+        assert_eq!(count_free(&card.bytes), 198);
     }
 }
