@@ -25,6 +25,7 @@ pub fn rows() -> Vec<Row<'static>> {
         answer: 0,
         fresh: (),
         restored: Restored::EachTiming,
+        restore: Clone::clone_from,
     };
     let theirs: [fn(&[u8]) -> u16; 2] = [by_table, fastest::checksum];
     vec![job.row(

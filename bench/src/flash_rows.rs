@@ -63,9 +63,10 @@ pub fn growing<'a>(rows: &'a [Vec<Row<'a>>; 3]) -> impl Iterator<Item = [&'a Row
     lines.filter(|line| GROWING.iter().any(|filling| line[0].on == filling.name()))
 }
 
-fn job<I, S>(call: &'static str, sample: &Sample, inputs: Vec<I>, fresh: S) -> Job<I, S> {
+fn job<I, S: Clone>(call: &'static str, sample: &Sample, inputs: Vec<I>, fresh: S) -> Job<I, S> {
     let (kib, on) = (Some(sample.kib()), sample.filling.name().into());
-    Job { call, kib, on, inputs, answer: 0, fresh, restored: Restored::EachTiming }
+    let (restored, restore) = (Restored::EachTiming, S::clone_from);
+    Job { call, kib, on, inputs, answer: 0, fresh, restored, restore }
 }
 
 fn check(sample: &Sample) -> Row<'_> {

@@ -25,8 +25,9 @@ Nanoseconds are medians for one call; in a walk that is one of its calls. Before
 sides: answers and bytes were the same.
 
 Page and block buffers are filled with zeros before each timing. Images that a call writes to are restored from a master copy
-before every call: `untimed`, the whole image, between two timings; `timed`, inside the timing and for all alike, the block and
-the bitmap that an append changes. Where a save is to compact and a block is free, the lowest free one is spoilt.";
+before every call: `untimed`, between two timings, the whole partition, or a card's table and first directory block; `timed`,
+inside the timing and for all alike, the block and the bitmap that an append changes. Where a save is to compact and a block is
+free, the lowest free one is spoilt. On a scattered card every second block is free.";
 
 const GROWTH: &str = "\
 How ours grows with the image: in each round the three lengths are timed right after each other, in rotating order.";

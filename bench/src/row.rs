@@ -44,6 +44,8 @@ pub struct Job<I, S> {
     /// What the call writes to, as it is before.
     pub fresh: S,
     pub restored: Restored,
+    /// Makes it fresh again before a call that is timed alone: all of it, or what the calls may see.
+    pub restore: fn(&mut S, &S),
 }
 
 impl<I, S> Job<I, S>
@@ -150,7 +152,7 @@ impl<I, S: Clone + PartialEq> Bench<I, S> {
     ) -> Duration {
         let mut total = Duration::ZERO;
         for input in (0..passes).flat_map(|_| &self.job.inputs) {
-            state.clone_from(&self.job.fresh);
+            (self.job.restore)(state, &self.job.fresh);
             let start = Instant::now();
             black_box(call(black_box(&mut *state), black_box(input)));
             total += start.elapsed();
