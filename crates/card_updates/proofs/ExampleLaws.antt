@@ -26,7 +26,7 @@ use Rattle.card_model.proofs.WitnessLaws.{table, directory, Computed, table-is,
 use Rattle.card_updates.specs.Parts.{InLink, InEntry}
 use Rattle.card_updates.specs.Delete.{deleteRows, deleteVerdict}
 use Rattle.card_updates.specs.Write.{NewFile, givenFile, blocksOf, numbersDown, freeBlocks, lowestUnused, badLengths, dataRows, takenRow, roomRow, writeRows, writeVerdict, takenBlocks}
-use Rattle.card_updates.specs.Theorems.{orphansOn, PlaceOfWrite, write-block, write-link, write-entry, PlaceOfDelete, delete-link, delete-entry}
+use Rattle.card_updates.specs.Theorems.{orphansOn, ScatteredRefusals, PlaceOfWrite, write-block, write-link, write-entry, PlaceOfDelete, delete-link, delete-entry}
 use Rattle.card_updates.specs.Examples.{scatteredEntries, scatteredUsers, scatteredCard, openEntries, openUsers, openCard, fileOfSize}
 
 -- ---- on a card whose table and directory are known-card
@@ -166,33 +166,21 @@ scattered-fits = write-on scattered-known (fileOfSize 0x43 195) 0 ∙ scattered-
 pub scattered-deletes : deleteVerdict scatteredCard (replicate 12 0x41) ≡ done
 scattered-deletes = delete-on scattered-known (replicate 12 0x41) ∙ scattered-are .4
 
-pub scattered-refused :
-    (writeVerdict scatteredCard (fileOfSize 0x43 196) 0 ≡ refusedAt 34 Whole)
-    × (writeVerdict scatteredCard (fileOfSize 0x42 2) 0 ≡ refusedAt 29 (Entry 1))
-    × (writeVerdict scatteredCard (fileOfSize 0x42 196) 0 ≡ refusedAt 29 (Entry 1))
-    × (writeVerdict scatteredCard (fileOfSize 0x42 2) 2 ≡ refusedAt 26 Whole)
-    × (writeVerdict scatteredCard (fileOfSize 0x42 201) 201 ≡ refusedAt 33 Whole)
-    × (writeVerdict scatteredCard (givenFile 0x01 (replicate 12 0x42) (replicate 8 0x20) (replicate 512 0x11)) 0 ≡ refusedAt 26 Whole)
-    × (writeVerdict scatteredCard (givenFile 0x00 (replicate 11 0x43) (replicate 8 0x20) (replicate 512 0x11)) 0 ≡ refusedAt 33 Whole)
-    × (writeVerdict scatteredCard (givenFile 0x00 (replicate 12 0x43) (replicate 7 0x20) (replicate 512 0x11)) 0 ≡ refusedAt 33 Whole)
-    × (writeVerdict scatteredCard (givenFile 0x00 (replicate 12 0x43) (replicate 8 0x20) (replicate 513 0x11)) 0 ≡ refusedAt 33 Whole)
-    × (writeVerdict scatteredCard (fileOfSize 0x42 0) 0 ≡ refusedAt 33 Whole)
-    × (deleteVerdict scatteredCard (replicate 12 0x43) ≡ refusedAt 31 Whole)
-    × (deleteVerdict scatteredCard (replicate 11 0x41) ≡ refusedAt 33 Whole)
-scattered-refused = (
-  write-on scattered-known (fileOfSize 0x43 196) 0 ∙ scattered-are .5,
-  write-on scattered-known (fileOfSize 0x42 2) 0 ∙ scattered-are .6,
-  write-on scattered-known _ 0 ∙ scattered-are .7,
-  write-on scattered-known _ 2 ∙ scattered-are .8,
-  write-on scattered-known _ 201 ∙ scattered-are .9,
-  write-on scattered-known _ 0 ∙ scattered-are .10,
-  write-on scattered-known _ 0 ∙ scattered-are .11,
-  write-on scattered-known _ 0 ∙ scattered-are .12,
-  write-on scattered-known _ 0 ∙ scattered-are .13,
-  write-on scattered-known _ 0 ∙ scattered-are .14,
-  delete-on scattered-known (replicate 12 0x43) ∙ scattered-are .15,
-  delete-on scattered-known (replicate 11 0x41) ∙ scattered-are .16,
-)
+pub scattered-refused : ScatteredRefusals
+scattered-refused = record {
+  one-block-more = write-on scattered-known (fileOfSize 0x43 196) 0 ∙ scattered-are .5;
+  taken-name = write-on scattered-known (fileOfSize 0x42 2) 0 ∙ scattered-are .6;
+  taken-name-before-room = write-on scattered-known _ 0 ∙ scattered-are .7;
+  offset-before-taken-name = write-on scattered-known _ 2 ∙ scattered-are .8;
+  length-before-offset = write-on scattered-known _ 201 ∙ scattered-are .9;
+  flag-before-taken-name = write-on scattered-known _ 0 ∙ scattered-are .10;
+  short-name = write-on scattered-known _ 0 ∙ scattered-are .11;
+  short-time = write-on scattered-known _ 0 ∙ scattered-are .12;
+  part-of-block = write-on scattered-known _ 0 ∙ scattered-are .13;
+  no-block = write-on scattered-known _ 0 ∙ scattered-are .14;
+  absent-name = delete-on scattered-known (replicate 12 0x43) ∙ scattered-are .15;
+  short-name-to-delete = delete-on scattered-known (replicate 11 0x41) ∙ scattered-are .16;
+}
 
 -- ---- the card whose entry 0 is unused and whose block 199 is free
 

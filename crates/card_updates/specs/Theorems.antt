@@ -152,6 +152,21 @@ pub record WriteDone (card : List ℕ) (f : NewFile) (offset : ℕ) (after : Lis
   pub at-entry : ℕ
   pub leaves : WriteLeaves card after f offset at-entry
 
+-- Refusals on the card `scatteredCard`; where two faults meet, the earlier row of the order answers.
+pub record ScatteredRefusals : Type 0 where
+  pub one-block-more : writeVerdict scatteredCard (fileOfSize 0x43 196) 0 ≡ refusedAt 34 Whole
+  pub taken-name : writeVerdict scatteredCard (fileOfSize 0x42 2) 0 ≡ refusedAt 29 (Entry 1)
+  pub taken-name-before-room : writeVerdict scatteredCard (fileOfSize 0x42 196) 0 ≡ refusedAt 29 (Entry 1)
+  pub offset-before-taken-name : writeVerdict scatteredCard (fileOfSize 0x42 2) 2 ≡ refusedAt 26 Whole
+  pub length-before-offset : writeVerdict scatteredCard (fileOfSize 0x42 201) 201 ≡ refusedAt 33 Whole
+  pub flag-before-taken-name : writeVerdict scatteredCard (givenFile 0x01 (replicate 12 0x42) (replicate 8 0x20) (replicate 512 0x11)) 0 ≡ refusedAt 26 Whole
+  pub short-name : writeVerdict scatteredCard (givenFile 0x00 (replicate 11 0x43) (replicate 8 0x20) (replicate 512 0x11)) 0 ≡ refusedAt 33 Whole
+  pub short-time : writeVerdict scatteredCard (givenFile 0x00 (replicate 12 0x43) (replicate 7 0x20) (replicate 512 0x11)) 0 ≡ refusedAt 33 Whole
+  pub part-of-block : writeVerdict scatteredCard (givenFile 0x00 (replicate 12 0x43) (replicate 8 0x20) (replicate 513 0x11)) 0 ≡ refusedAt 33 Whole
+  pub no-block : writeVerdict scatteredCard (fileOfSize 0x42 0) 0 ≡ refusedAt 33 Whole
+  pub absent-name : deleteVerdict scatteredCard (replicate 12 0x43) ≡ refusedAt 31 Whole
+  pub short-name-to-delete : deleteVerdict scatteredCard (replicate 11 0x41) ≡ refusedAt 33 Whole
+
 pub record UpdateTheorems : Type 0 where
   -- one law on parts, and its instances
   pub puts-part : (card : List ℕ) (at : ℕ) (part : List ℕ) → at + length part ≤ length card → PartPut card at part
@@ -197,19 +212,7 @@ pub record UpdateTheorems : Type 0 where
   pub scattered-entry : lowestUnused (directoryOf scatteredCard) ≡ some 2
   pub scattered-fits : writeVerdict scatteredCard (fileOfSize 0x43 195) 0 ≡ done
   pub scattered-deletes : deleteVerdict scatteredCard (replicate 12 0x41) ≡ done
-  pub scattered-refused :
-      (writeVerdict scatteredCard (fileOfSize 0x43 196) 0 ≡ refusedAt 34 Whole)
-      × (writeVerdict scatteredCard (fileOfSize 0x42 2) 0 ≡ refusedAt 29 (Entry 1))
-      × (writeVerdict scatteredCard (fileOfSize 0x42 196) 0 ≡ refusedAt 29 (Entry 1))
-      × (writeVerdict scatteredCard (fileOfSize 0x42 2) 2 ≡ refusedAt 26 Whole)
-      × (writeVerdict scatteredCard (fileOfSize 0x42 201) 201 ≡ refusedAt 33 Whole)
-      × (writeVerdict scatteredCard (givenFile 0x01 (replicate 12 0x42) (replicate 8 0x20) (replicate 512 0x11)) 0 ≡ refusedAt 26 Whole)
-      × (writeVerdict scatteredCard (givenFile 0x00 (replicate 11 0x43) (replicate 8 0x20) (replicate 512 0x11)) 0 ≡ refusedAt 33 Whole)
-      × (writeVerdict scatteredCard (givenFile 0x00 (replicate 12 0x43) (replicate 7 0x20) (replicate 512 0x11)) 0 ≡ refusedAt 33 Whole)
-      × (writeVerdict scatteredCard (givenFile 0x00 (replicate 12 0x43) (replicate 8 0x20) (replicate 513 0x11)) 0 ≡ refusedAt 33 Whole)
-      × (writeVerdict scatteredCard (fileOfSize 0x42 0) 0 ≡ refusedAt 33 Whole)
-      × (deleteVerdict scatteredCard (replicate 12 0x43) ≡ refusedAt 31 Whole)
-      × (deleteVerdict scatteredCard (replicate 11 0x41) ≡ refusedAt 33 Whole)
+  pub scattered-refused : ScatteredRefusals
   -- and one where entry 0 is unused and block 199 is free: both are taken first
   pub open-sound : SoundCard openCard
   pub open-writes : writeVerdict openCard (fileOfSize 0x43 2) 0 ≡ done
