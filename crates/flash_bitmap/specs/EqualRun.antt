@@ -1,11 +1,8 @@
--- Runs of equal bytes, in a slice and in the bitmap. Assumes nothing.
+-- Runs of equal bytes. Assumes nothing.
 use Prim.Native.Nat.{ℕ, _≤_, _<_}
 use mathlib.Core.Path.{_≡_}
 use mathlib.Core.List.{List}
-use lib.ListN.{length, getD}
-use Rattle.flash_model.specs.Measures.{firstBitmap}
-use Rattle.flash_model.specs.Bitmap.{bitByte}
-use Rattle.flash_model.specs.Partition.{bitmapOf}
+use lib.ListN.{getD}
 
 -- Every byte from `from` up to `to`, which is not past `end`, is `byte`.
 pub record EqualRun (s : List ℕ) (byte from end to : ℕ) : Type 0 where
@@ -13,8 +10,7 @@ pub record EqualRun (s : List ℕ) (byte from end to : ℕ) : Type 0 where
   pub high : to ≤ end
   pub alike : (i : ℕ) → from ≤ i → i < to → getD s i 0 ≡ byte
 
--- The bits of the user blocks from `from` up to `to` are in bytes that are all `byte`.
-pub record BytesPassed (image : List ℕ) (byte from to : ℕ) : Type 0 where
-  pub low : from ≤ to
-  pub high : to ≤ firstBitmap (length image)
-  pub alike : (k : ℕ) → from ≤ k → k < to → getD (bitmapOf image) (bitByte k) 0 ≡ byte
+-- And the run goes no further: before `end` another byte stands there.
+pub record WholeRun (s : List ℕ) (byte from end to : ℕ) : Type 0 where
+  pub run : EqualRun s byte from end to
+  pub ended : to < end → getD s to 0 ≡ byte → ⊥

@@ -1,3 +1,4 @@
 pub mod Blank
+pub mod HighBits
 pub mod Found
 pub mod EqualRun

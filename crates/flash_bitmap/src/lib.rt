@@ -6,7 +6,7 @@ use runs::run_end;
 use words::fill;
 ghost use mathlib.Core.Path.{_≡_};
 ghost use mathlib.Core.Bool.{true, false};
-ghost use Prim.Native.Nat.{_+_, _*_, _≤_, _<_};
+ghost use Prim.Native.Nat.{_+_, _*_, _/_, _≤_, _<_};
 ghost use lib.ListN.{length};
 ghost use Rattle.flash_model.specs.Measures.{legalSize, firstBitmap, capacity};
 ghost use Rattle.flash_model.specs.Bitmap.{bitByte, bitPlace, firstCleared};
@@ -14,8 +14,8 @@ ghost use Rattle.flash_model.specs.Partition.{bitmapOf, allocated, lowestFree};
 ghost use Rattle.flash_model.specs.Update.{bitCleared, bitsCleared};
 ghost use Rattle.flash_measures.specs.HasMeasures.{HasMeasures};
 ghost use Rattle.flash_bitmap.specs.Blank.{IsBlank};
-ghost use Rattle.flash_bitmap.specs.Found.{asFound, lowestAllocated};
-ghost use Rattle.flash_bitmap.specs.EqualRun.{BytesPassed};
+ghost use Rattle.flash_bitmap.specs.Found.{asFound, lowestAllocated, lowestDiffering};
+ghost use Rattle.flash_bitmap.specs.HighBits.{HighestOne, lowestInByte};
 
 // A physical block, or none.
 pub enum Found {
@@ -41,15 +41,6 @@ fn bit_place(k: usize) -> usize
     7 - (k - 1) % 8
 }
 
-// Whether user block k is allocated: its bit is 0.
-pub fn is_allocated(image: &[u8], m: Measures, k: usize) -> bool
-    requires { ⌜ HasMeasures (now image) (m .size) ⌝ }
-    requires { ⌜ (1 ≤ k) × (k ≤ capacity (m .size)) ⌝ }
-    ensures { λ r. ⌜ r ≡ allocated (now (image .entry)) k ⌝ }
-{
-    (image[bit_byte(m, k)] >> bit_place(k)) % 2 == 0
-}
-
 // The bit of user block k, which is free, is cleared.
 pub fn clear_bit(image: &mut [u8], m: Measures, k: usize)
     requires { ⌜ HasMeasures (now image) (m .size) ⌝ }
@@ -61,57 +52,68 @@ pub fn clear_bit(image: &mut [u8], m: Measures, k: usize)
     image[at] = image[at] - (1u8 << bit_place(k));
 }
 
-// If the bit of user block `from` begins a byte, the blocks whose bytes are all `byte` are passed from there on. Ignored bits in
-// the last byte are passed too, but they are no block's.
-fn pass_bytes(image: &[u8], m: Measures, from: usize, byte: u8) -> usize
-    requires { ⌜ HasMeasures (now image) (m .size) ⌝ }
-    requires { ⌜ (1 ≤ from) × (from ≤ firstBitmap (m .size)) ⌝ }
-    ensures { λ r. ⌜ BytesPassed (now (image .entry)) byte from r ⌝ }
+// The place of a byte's highest 1, from the high end: so many zeros lead.
+fn highest_one(byte: u8) -> u32
+    requires { ⌜ 0 < byte ⌝ }
+    ensures { λ r. ⌜ HighestOne byte r ⌝ }
 {
-    if (from - 1) % 8 != 0 {
-        return from;
-    }
-    let end = m.first_bitmap();
-    let at = m.start(end);
-    let i = run_end(image, at + (from - 1) / 8, at + (end + 6) / 8, byte);
-    let to = (i - at) * 8 + 1;
-    if end < to {
-        return end;
-    }
-    to
+    u8::leading_zeros(byte)
 }
 
-// The lowest free user block: bytes of 0 have none, and the bits of the first other byte are looked at one by one.
+// The lowest block before `end` whose bit is 1, in a byte that begins with the bit of block `first`. Where `end` is M, the bits past
+// the last user block are ignored.
+fn lowest_in_byte(byte: u8, first: usize, end: usize) -> Found
+    requires { ⌜ (0 < byte) × (first ≤ end) ⌝ }
+    ensures { λ r. ⌜ r ≡ asFound (lowestInByte byte first end) ⌝ }
+{
+    let place = highest_one(byte) as usize;
+    if end - first <= place {
+        return Found::Nothing;
+    }
+    Found::Hit(first + place)
+}
+
+// From byte i of the bitmap on, the lowest user block whose bit differs from that of `byte` at its place: a free one for 0, an
+// allocated one for FF. Bytes equal to `byte` are passed.
+fn lowest_differing(image: &[u8], m: Measures, i: usize, byte: u8) -> Found
+    requires { ⌜ HasMeasures (now image) (m .size) ⌝ }
+    requires { ⌜ i ≤ (capacity (m .size) + 7) / 8 ⌝ }
+    ensures { λ r. ⌜ r ≡ asFound (lowestDiffering (now (image .entry)) byte (i * 8 + 1)) ⌝ }
+{
+    let end = m.first_bitmap();
+    let bitmap = m.start(end);
+    let bits_end = bitmap + (m.capacity() + 7) / 8;
+    let at = run_end(image, bitmap + i, bits_end, byte);
+    if at == bits_end {
+        return Found::Nothing;
+    }
+    lowest_in_byte(image[at] ^ byte, (at - bitmap) * 8 + 1, end)
+}
+
+// The lowest free user block: the first bit that is 1.
 pub fn lowest_free(image: &[u8], m: Measures) -> Found
     requires { ⌜ HasMeasures (now image) (m .size) ⌝ }
     ensures { λ r. ⌜ r ≡ asFound (lowestFree (now (image .entry))) ⌝ }
 {
-    let end = m.first_bitmap();
-    let mut k = pass_bytes(image, m, 1, 0);
-    while k < end {
-        if !is_allocated(image, m, k) {
-            return Found::Hit(k);
-        }
-        k += 1;
-    }
-    Found::Nothing
+    lowest_differing(image, m, 0, 0)
 }
 
-// The lowest allocated user block from `from` on: bytes of FF have none.
+// The lowest allocated user block from `from` on: the first bit there that is 0. In `rest` it is the first 1, and the bits before
+// that of `from` are shifted out.
 pub fn lowest_allocated(image: &[u8], m: Measures, from: usize) -> Found
     requires { ⌜ HasMeasures (now image) (m .size) ⌝ }
     requires { ⌜ 1 ≤ from ⌝ }
     ensures { λ r. ⌜ r ≡ asFound (lowestAllocated (now (image .entry)) from) ⌝ }
 {
     let end = m.first_bitmap();
-    let mut k = from;
-    while k < end {
-        if is_allocated(image, m, k) {
-            return Found::Hit(k);
-        }
-        k = pass_bytes(image, m, k + 1, 255);
+    if end <= from {
+        return Found::Nothing;
     }
-    Found::Nothing
+    let rest = (image[bit_byte(m, from)] ^ 255) << ((from - 1) % 8);
+    if rest != 0 {
+        return lowest_in_byte(rest, from, end);
+    }
+    lowest_differing(image, m, (from - 1) / 8 + 1, 255)
 }
 
 // Clears the first n bits of a bitmap whose bytes are all FF: full bytes, then the high bits of one more.

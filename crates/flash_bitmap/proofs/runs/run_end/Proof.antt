@@ -3,7 +3,7 @@
 use Prim.Native.Nat.{_-_}
 use mathlib.Core.Path.{_≡_, _∙_}
 use native.Mathlib.Omega.{arith}
-use borrow.Author.Tests.{eqb-true}
+use borrow.Author.Tests.{eqb-true, eqb-false}
 use Rattle.words.specs.LittleEndian.{repeated}
 use Rattle.flash_bitmap.specs.EqualRun.{EqualRun}
 use Rattle.flash_bitmap.proofs.RunLaws.{run-none, run-byte, run-word}
@@ -48,5 +48,5 @@ run-end-spec =
     (λ c. search needs)
     (λ c. search needs)
     loop2-again
-    (λ c. c .before .before .before .loop2 .inv)
-    (λ c. c .before .loop2 .inv))
+    (λ c. record { run = c .before .before .before .loop2 .inv; ended = λ l. eqb-false _ _ (c .if2 .left) })
+    (λ c. record { run = c .before .loop2 .inv; ended = λ l e. absurd (omega (arith, c .loop2-test .left)) }))
