@@ -52,7 +52,7 @@ pub fn clear_bit(image: &mut [u8], m: Measures, k: usize)
     image[at] = image[at] - (1u8 << bit_place(k));
 }
 
-// The place of a byte's highest 1, from the high end: so many zeros lead.
+// The place of a byte's highest 1, from the high end: as many zeros lead the byte.
 fn highest_one(byte: u8) -> u32
     requires { ⌜ 0 < byte ⌝ }
     ensures { λ r. ⌜ HighestOne byte r ⌝ }
@@ -90,7 +90,7 @@ fn lowest_differing(image: &[u8], m: Measures, i: usize, byte: u8) -> Found
     lowest_in_byte(image[at] ^ byte, (at - bitmap) * 8 + 1, end)
 }
 
-// The lowest free user block: the first bit that is 1.
+// The lowest free user block: from byte 0 on, the first bit that is not 0.
 pub fn lowest_free(image: &[u8], m: Measures) -> Found
     requires { ⌜ HasMeasures (now image) (m .size) ⌝ }
     ensures { λ r. ⌜ r ≡ asFound (lowestFree (now (image .entry))) ⌝ }
