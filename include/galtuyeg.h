@@ -23,7 +23,7 @@ extern "C" {
 #endif
 
 /* Raised by 1 whenever a function, a struct or a number of this interface is added or changed. */
-#define GALTUYEG_VERSION 2
+#define GALTUYEG_VERSION 3
 
 /* The linked library's GALTUYEG_VERSION. Where it differs from this header's the two don't fit, and nothing else may be called. */
 uint32_t galtuyeg_version(void);
@@ -96,7 +96,7 @@ static inline const char *galtuyeg_code_text(uint64_t code)
     case GALTUYEG_CARD_WRONG_USER_BLOCK:
         return "a user block's table entry is not FFFC, FFFF, FFFA or 0..199";
     case GALTUYEG_CARD_WRONG_ENTRY:
-        return "bad directory entry, or bad copy flag or header offset of a new file";
+        return "bad directory entry, or bad header offset of a new file";
     case GALTUYEG_CARD_WRONG_CHAIN:
         return "bad chain";
     case GALTUYEG_CARD_SHARED_BLOCK:
@@ -185,11 +185,12 @@ struct galtuyeg_card_entry {
     uint64_t code;
     uint64_t place_kind;
     uint64_t place;
-    uint64_t entry; /* 0 to 207 */
-    uint64_t type;  /* 0x33 data, 0xCC game */
-    uint64_t flag;  /* copy flag */
-    uint64_t first; /* first block */
-    uint64_t size;  /* in blocks */
+    uint64_t entry;          /* 0 to 207 */
+    uint64_t type;           /* 0x33 data, 0xCC game */
+    uint64_t flag;           /* copy flag, any byte */
+    uint64_t copy_protected; /* what it says: 1 protected (FF), 0 copyable (any other byte) */
+    uint64_t first;          /* first block */
+    uint64_t size;           /* in blocks */
     uint64_t offset;
     uint8_t name[GALTUYEG_NAME_BYTES]; /* not ended by a 0 */
     uint8_t time[GALTUYEG_TIME_BYTES];
@@ -211,7 +212,7 @@ struct galtuyeg_card_entry galtuyeg_card_list(const uint8_t *card, size_t card_l
 struct galtuyeg_card_verdict galtuyeg_card_read(const uint8_t *card, size_t card_len, const uint8_t *name, size_t name_len,
                                                 uint64_t index, uint8_t *block, size_t block_len);
 
-/* Puts a data file onto the card: its name, 12 bytes that no file has; copy flag, 00 or FF; time, 8 bytes; header offset in
+/* Puts a data file onto the card: its name, 12 bytes that no file has; copy flag, any byte; time, 8 bytes; header offset in
  * blocks, below the size; data, 1 to 200 blocks of 512. It takes the highest free blocks, from the highest down, and the
  * lowest unused directory entry. 0, 20 to 30, then 33, 26, 29, 34: here 26 names the whole card, and 29 the entry that has the
  * name. */

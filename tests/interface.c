@@ -162,13 +162,14 @@ static void card_calls(uint8_t *card)
     CHECK(galtuyeg_card_check(NULL, 0).code == 20);
 
     entry = galtuyeg_card_list(card, CARD_BYTES, 0);
-    CHECK(entry.code == 0 && entry.entry == 0 && entry.type == 0x33 && entry.flag == 0xFF);
+    CHECK(entry.code == 0 && entry.entry == 0 && entry.type == 0x33 && entry.flag == 0xFF && entry.copy_protected == 1);
     CHECK(entry.first == 199 && entry.size == 1 && entry.offset == 0);
     CHECK(memcmp(entry.name, name, sizeof entry.name) == 0);
     CHECK(entry.time[0] == 0x19 && entry.time[7] == 0x06);
     entry = galtuyeg_card_list(card, CARD_BYTES, UINT64_MAX);
     CHECK(galtuyeg_card_list(NULL, 0, 0).code == 20);
-    CHECK(entry.code == 31 && entry.entry == 0 && entry.type == 0 && entry.name[0] == 0 && entry.time[7] == 0);
+    CHECK(entry.code == 31 && entry.entry == 0 && entry.type == 0 && entry.flag == 0 && entry.copy_protected == 0);
+    CHECK(entry.name[0] == 0 && entry.time[7] == 0);
 
     memset(block, 0, sizeof block);
     CHECK(galtuyeg_card_read(card, CARD_BYTES, (const uint8_t *)"SAVE_______?", 12, 0, block, sizeof block).code == 31);
@@ -251,6 +252,20 @@ static void card_write(uint8_t *card, uint8_t *expected)
     }
 }
 
+/* Any flag is written as it comes, and listed with what it says. */
+static void card_flags(uint8_t *card)
+{
+    struct galtuyeg_card_entry entry;
+    unsigned flag;
+
+    for (flag = 0; flag < 256; flag++) {
+        blank_card(card);
+        CHECK(at_card(write_file(card, (struct new_file){"ONE_BLOCK___", 12, (uint8_t)flag, 8, 0, 512}), 0));
+        entry = galtuyeg_card_list(card, CARD_BYTES, 0);
+        CHECK(entry.code == 0 && entry.flag == flag && entry.copy_protected == (flag == 0xFF) && card[253 * 512 + 1] == flag);
+    }
+}
+
 /* After card_write. */
 static void card_write_refused(uint8_t *card, uint8_t *before)
 {
@@ -260,8 +275,7 @@ static void card_write_refused(uint8_t *card, uint8_t *before)
     CHECK(at_entry(write_file(card, (struct new_file){"THREE_BLOCKS", 12, 0x00, 8, 0, 512}), 29, 0));
     CHECK(at_entry(write_file(card, (struct new_file){"ONE_BLOCK___", 12, 0x00, 8, 0, 200 * 512}), 29, 1));
 
-    CHECK(at_card(write_file(card, (struct new_file){"ONE_BLOCK___", 12, 0x01, 8, 0, 512}), 26));
-    CHECK(at_card(write_file(card, (struct new_file){"NEW_FILE____", 12, 0xFE, 8, 0, 512}), 26));
+    CHECK(at_card(write_file(card, (struct new_file){"ONE_BLOCK___", 12, 0x01, 8, 1, 512}), 26));
     CHECK(at_card(write_file(card, (struct new_file){"NEW_FILE____", 12, 0x00, 8, 3, 3 * 512}), 26));
     CHECK(at_card(write_file(card, (struct new_file){"NEW_FILE____", 12, 0x00, 8, 65536, 3 * 512}), 26));
     CHECK(at_card(write_file(card, (struct new_file){"NEW_FILE____", 12, 0x00, 8, (uint64_t)1 << 32, 3 * 512}), 26));
@@ -391,6 +405,7 @@ static void card_changes(uint8_t *card, uint8_t *before)
     /* No two blocks alike, and no byte 0. */
     for (i = 0; i < sizeof data; i++)
         data[i] = (uint8_t)(i % 251 + 1);
+    card_flags(card);
     card_write(card, before);
     card_write_refused(card, before);
     card_write_pointers(card, before);

@@ -42,6 +42,7 @@ class Fields:
     def __init__(self, entry):
         self.kind, self.flag, self.first, self.name, self.time, self.size, self.offset = struct.unpack("<BBH12s8sHH4x", entry)
         self.used = self.kind != UNUSED
+        self.protected = self.flag == 0xFF
 
 
 def used_files(directory):
@@ -78,7 +79,6 @@ def table_refusal(table):
 def bad_entry(f):
     return not (
         f.kind in (DATA, GAME)
-        and f.flag in (0x00, 0xFF)
         and f.first < 200
         and 1 <= f.size <= 200
         and (f.kind == GAME or f.offset < f.size)
@@ -152,17 +152,20 @@ def check(card):
     return (*refused, orphans(table_of(card), directory_of(card)) if refused == GOOD else 0)
 
 
+NOT_LISTED = (0, 0, 0, False, 0, 0, 0, bytes(12), bytes(8))
+
+
 def listed(directory, start):
     for i, f in used_files(directory):
         if i >= start:
-            return (*GOOD, (i, f.kind, f.flag, f.first, f.size, f.offset, f.name, f.time))
-    return 31, WHOLE, None
+            return (*GOOD, (i, f.kind, f.flag, f.protected, f.first, f.size, f.offset, f.name, f.time))
+    return 31, WHOLE, NOT_LISTED
 
 
 def list_entry(card, start):
-    """Number, place, and the entry's number and fields or None."""
+    """Number, place, and the entry's number and fields, or zeros."""
     refused = card_refusal(card)
-    return listed(directory_of(card), start) if refused == GOOD else (*refused, None)
+    return listed(directory_of(card), start) if refused == GOOD else (*refused, NOT_LISTED)
 
 
 def read_refusal(directory, name, index, buffer_length):
@@ -196,7 +199,7 @@ def write_refusal(table, directory, new):
     size, rest = divmod(len(new.data), 512)
     if len(new.name) != 12 or len(new.time) != 8 or rest != 0 or not 1 <= size <= 200:
         return 33, WHOLE
-    if new.flag not in (0x00, 0xFF) or new.offset >= size:
+    if new.offset >= size:
         return 26, WHOLE
     for i, f in used_files(directory):
         if f.name == new.name:
@@ -379,7 +382,10 @@ def entries():
         files = used_files([TWO_BLOCKS, e])
         line(f"entry 1: {label}", next(((26, ("entry", i)) for i, f in files if bad_entry(f)), GOOD))
     line("entries 1 and 2 bad", directory_refusal(table, [A, with_bytes(B, {0: 1}), with_bytes(C, {0: 2})]))
-    line("entry 207 bad", directory_refusal(table, [NO_ENTRY] * 207 + [with_bytes(A, {1: 1})]))
+    line("entry 207 bad", directory_refusal(table, [NO_ENTRY] * 207 + [with_bytes(A, {0: 1})]))
+    for label, e in (("right", A), ("type 01", with_bytes(A, {0: 1}))):
+        line(f"bad with each flag: {label}", *(bad_entry(Fields(with_bytes(e, {1: flag}))) for flag in range(256)))
+    line("protected with each flag", *(Fields(with_bytes(A, {1: flag})).protected for flag in range(256)))
 
 
 CHAIN_CASES = [
@@ -455,7 +461,9 @@ def listings():
     for start in (0, 1, 2, 3):
         line(f"list from {start}", listed(directory, start))
     line("list from 4, 207, 208, 1000", *(listed(directory, start)[:2] for start in (4, 207, 208, 1000)))
+    line("list from 4", listed(directory, 4))
     line("list from 207, where it is used", listed([NO_ENTRY] * 207 + [A], 207))
+    line("list of flag FE", listed([with_bytes(A, {1: 0xFE})], 0))
 
 
 READ_CASES = [
@@ -473,7 +481,7 @@ def reads():
 
 def no_card():
     line("check of no bytes", check(b""))
-    line("list of no bytes", list_entry(b"", 0)[:2])
+    line("list of no bytes", list_entry(b"", 0))
     line("read of no bytes into a buffer of one byte, 7", read_block(b"", b"", 0, 1)[:2], 7)
 
 

@@ -8,6 +8,8 @@ use Rattle.verdicts.specs.declared.Verdict.{Verdict}
 use Rattle.verdicts.specs.Rows.{placeNumber}
 use Rattle.flash_model.specs.Calls.{Reply}
 use Rattle.card_model.specs.declared.Checked.{Checked}
+use Rattle.card_model.specs.declared.CopyProtection.{CopyProtection}
+use Rattle.card_model.specs.declared.CopyProtection.the-variants.{Protected, Copyable}
 use Rattle.card_model.specs.declared.Listing.{Listing}
 use Rattle.capi.specs.declared.answers.ReportAnswer.{ReportAnswer}
 use Rattle.capi.specs.declared.answers.NextLiveAnswer.{NextLiveAnswer}
@@ -53,6 +55,11 @@ cardCheckOf c = record {
   orphans = c .orphans;
 }
 
+-- 1 protected, 0 copyable.
+abbrev pub protectedNumber : CopyProtection → ℕ
+protectedNumber Protected = 1
+protectedNumber Copyable = 0
+
 unfoldable pub cardEntryOf : Listing → CardEntryAnswer
 cardEntryOf l = record {
   code = l .verdict .number;
@@ -61,6 +68,7 @@ cardEntryOf l = record {
   entry = l .entry;
   kind = l .kind;
   flag = l .flag;
+  «copy_protected» = protectedNumber (l .protection);
   first = l .first;
   size = l .size;
   offset = l .offset;

@@ -1,4 +1,5 @@
 // The structs that C receives by value, and how they are made of the calls' answers. A C struct holds no enum.
+use card_model::CopyProtection;
 use flash::LiveNumber;
 use flash::Summary;
 use verdicts::Place;
@@ -6,7 +7,7 @@ use verdicts::Verdict;
 ghost use mathlib.Core.Path.{_≡_};
 ghost use Rattle.verdicts.specs.Rows.{placeNumber};
 ghost use Rattle.flash.specs.Answers.{reportAnswer, nextAnswer};
-ghost use Rattle.capi.specs.Structs.{reportOf, nextLiveOf, cardVerdictOf, kindOf};
+ghost use Rattle.capi.specs.Structs.{reportOf, nextLiveOf, cardVerdictOf, kindOf, protectedNumber};
 
 #[repr(C)]
 pub struct ReportAnswer {
@@ -40,6 +41,7 @@ pub struct CardEntryAnswer {
     pub entry: u64,
     pub kind: u64,
     pub flag: u64,
+    pub copy_protected: u64,
     pub first: u64,
     pub size: u64,
     pub offset: u64,
@@ -107,6 +109,15 @@ fn place_number(place: Place) -> u64
         Place::Whole => 0,
         Place::Block(block) => block as u64,
         Place::Entry(entry) => entry as u64,
+    }
+}
+
+pub fn copy_protected(protection: CopyProtection) -> u64
+    ensures { λ r. ⌜ r ≡ protectedNumber protection ⌝ }
+{
+    match protection {
+        CopyProtection::Protected => 1,
+        CopyProtection::Copyable => 0,
     }
 }
 

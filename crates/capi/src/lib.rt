@@ -10,6 +10,7 @@ use answers::CardVerdictAnswer;
 use answers::NextLiveAnswer;
 use answers::ReportAnswer;
 use answers::card_verdict_of;
+use answers::copy_protected;
 use answers::next_live_of;
 use answers::report_of;
 use card::DataNumbers;
@@ -23,7 +24,7 @@ ghost use Rattle.card_updates.specs.Write.{givenFile, writeVerdict, written};
 ghost use Rattle.capi.specs.Interface.{interfaceVersion};
 ghost use Rattle.capi.specs.Structs.{reportOf, nextLiveOf, cardCheckOf, cardEntryOf, cardVerdictOf};
 
-const INTERFACE_VERSION: u32 = 2;
+const INTERFACE_VERSION: u32 = 3;
 
 #[no_mangle]
 pub extern "C" fn galtuyeg_version() -> u32
@@ -105,6 +106,7 @@ pub extern "C" fn galtuyeg_card_list(card: &[u8], from: u64) -> CardEntryAnswer
 {
     let listing = card::list(card, from as usize);
     let verdict = card_verdict_of(listing.verdict);
+    let protection = listing.protection;
     let name = listing.name;
     let time = listing.time;
     CardEntryAnswer {
@@ -114,6 +116,7 @@ pub extern "C" fn galtuyeg_card_list(card: &[u8], from: u64) -> CardEntryAnswer
         entry: listing.entry as u64,
         kind: listing.kind as u64,
         flag: listing.flag as u64,
+        copy_protected: copy_protected(protection),
         first: listing.first as u64,
         size: listing.size as u64,
         offset: listing.offset as u64,

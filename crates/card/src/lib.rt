@@ -17,6 +17,7 @@ use card_files::entries::lowest_unused;
 use card_files::entries::put_entry;
 use card_files::free::list_free;
 use card_model::Checked;
+use card_model::CopyProtection;
 use card_model::Listing;
 use verdicts::Place;
 use verdicts::Verdict;
@@ -67,6 +68,7 @@ fn not_listed(verdict: Verdict) -> Listing
         entry: 0,
         kind: 0,
         flag: 0,
+        protection: CopyProtection::Copyable,
         first: 0,
         size: 0,
         offset: 0,
@@ -89,6 +91,7 @@ fn listing_of(i: usize, found: &[u8]) -> Listing
         entry: i,
         kind: found[0],
         flag: found[1],
+        protection: entry::protection(found),
         first: entry::first_block(found),
         size: entry::size(found),
         offset: entry::header_offset(found),
@@ -152,7 +155,7 @@ pub fn read(card: &[u8], name: &[u8], index: usize, block: &mut [u8]) -> Verdict
     read_block(card, i, index, block)
 }
 
-// What is given of a data file in numbers. Any offset may be given: one that isn't below the size is refused.
+// What is given of a data file in numbers. Any flag is taken; an offset that isn't below the size is refused.
 pub struct DataNumbers {
     pub flag: u8,
     pub offset: usize,
@@ -184,9 +187,6 @@ fn data_rows(name: &[u8], time: &[u8], numbers: DataNumbers, content: &[u8]) -> 
     let size = content.len() / 512;
     if 200 < size {
         return refused_at(33, Place::Whole);
-    }
-    if entry::wrong_flag(numbers.flag) {
-        return refused_at(26, Place::Whole);
     }
     if size <= numbers.offset {
         return refused_at(26, Place::Whole);

@@ -1,4 +1,5 @@
 // One directory entry, read from its own 32 bytes: its fields and the tests of row 26.
+use card_model::CopyProtection;
 use words::same;
 use words::word;
 ghost use mathlib.Core.Path.{_≡_};
@@ -47,6 +48,17 @@ pub fn is_game(entry: &[u8]) -> bool
     entry[0] == 0xCC
 }
 
+// What the copy flag says: FF is protected, anything else may be copied.
+pub fn protection(entry: &[u8]) -> CopyProtection
+    requires { ⌜ length (now entry) ≡ 32 ⌝ }
+    ensures { λ r. ⌜ r ≡ model.protectionOf (now (entry .entry)) ⌝ }
+{
+    if entry[1] == 0xFF {
+        return CopyProtection::Protected;
+    }
+    CopyProtection::Copyable
+}
+
 pub fn first_block(entry: &[u8]) -> usize
     requires { ⌜ length (now entry) ≡ 32 ⌝ }
     ensures { λ r. ⌜ r ≡ model.firstBlock (now (entry .entry)) ⌝ }
@@ -82,13 +94,6 @@ fn wrong_kind(entry: &[u8]) -> bool
     !(is_data(entry) | is_game(entry))
 }
 
-// Of the byte alone: a file that is to be written has no entry yet.
-pub fn wrong_flag(flag: u8) -> bool
-    ensures { λ r. ⌜ r ≡ model.wrongFlag flag ⌝ }
-{
-    !((flag == 0x00) | (flag == 0xFF))
-}
-
 fn wrong_first(entry: &[u8]) -> bool
     requires { ⌜ length (now entry) ≡ 32 ⌝ }
     ensures { λ r. ⌜ r ≡ model.wrongFirst (now (entry .entry)) ⌝ }
@@ -120,9 +125,6 @@ pub(crate) fn wrong_entry(entry: &[u8]) -> bool
         return false;
     }
     if wrong_kind(entry) {
-        return true;
-    }
-    if wrong_flag(entry[1]) {
         return true;
     }
     if wrong_first(entry) {

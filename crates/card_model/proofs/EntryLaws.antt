@@ -1,20 +1,23 @@
 -- One directory entry: where its bytes are, what a right one says, and its file. Assumes nothing.
 use Prim.Native.Nat.{ℕ, suc, _+_, _≤_, _<_}
-use mathlib.Core.Path.{_≡_, refl, ap, _∙_}
-use mathlib.Core.Bool.{true, false, false≢true}
+use mathlib.Core.Path.{_≡_, refl, sym, ap, _∙_}
+use mathlib.Core.Bool.{Bool, true, false, cond, false≢true}
 use mathlib.Core.List.{List, [], _++_, map}
 use mathlib.Core.Option.{Option, none, some}
+use mathlib.Core.Logic.{_↔_, _≢_}
 use native.Mathlib.Omega.{arith}
 use lib.Dec.{leb}
 use lib.ListN.{length, take, drop, length-drop}
 use lib.Seq.{length-take-le}
-use borrow.Author.Tests.{ltb-true, leb-true, not-false}
+use borrow.Author.Tests.{ltb-true, leb-true, eqb-true, eqb-false, eq-eqb, ne-eqb, not-false}
 use Rattle.words.specs.Lists.{concat, isSome, numbersFrom}
 use Rattle.words.proofs.Bools.{or-false-left, or-false-right, and-true-left, and-true-right}
 use Rattle.words.proofs.ListLaws.{map-snoc, range-at}
 use Rattle.words.proofs.JoinLaws.{concat-snoc}
+use Rattle.card_model.specs.declared.CopyProtection.{CopyProtection}
+use Rattle.card_model.specs.declared.CopyProtection.the-variants.{Protected, Copyable}
 use Rattle.card_model.specs.Layout.{cardLength, entryBlock, entryByte, entryPlace, directoryOf}
-use Rattle.card_model.specs.Entries.{flag, firstBlock, size, isUsed, wrongKind, wrongFlag, wrongFirst, wrongSize, wrongOffset, wrongEntry, entryAt}
+use Rattle.card_model.specs.Entries.{flag, isProtected, protectionOf, firstBlock, size, isUsed, wrongKind, wrongFirst, wrongSize, wrongOffset, wrongEntry, entryAt}
 use Rattle.card_model.specs.Files.{chain, chainOf, badChain, orEmpty, fileOf, filesBefore}
 
 pub entry-is : (card : List ℕ) (i : ℕ) → i < 208 → entryAt (directoryOf card) i ≡ take 32 (drop (entryPlace i) card)
@@ -27,11 +30,36 @@ entry-length card i e h =
     let after = drop (entryPlace i) card in
     rw (entry-is card i h) (length-take-le 32 after (omega (arith, length-drop (entryPlace i) card)))
 
+-- ---- the copy flag
+
+abbrev says-protected : CopyProtection → Bool
+says-protected Protected = true
+says-protected Copyable = false
+
+says-test : (t : Bool) → says-protected (cond t Protected Copyable) ≡ t
+says-test true = refl
+says-test false = refl
+
+module _ (entry : List ℕ) where
+  pub protected-exactly : (isProtected entry ≡ true) ↔ (flag entry ≡ 0xFF)
+  unfolding isProtected
+  protected-exactly = (λ e. eqb-true _ _ e, λ e. eq-eqb _ _ e)
+
+  pub protected-says : (protectionOf entry ≡ Protected) ↔ (flag entry ≡ 0xFF)
+  unfolding protectionOf isProtected
+  protected-says = (λ e. eqb-true _ _ (sym (says-test _) ∙ ap says-protected e), λ e. rw e)
+
+  pub copyable-says : (protectionOf entry ≡ Copyable) ↔ (flag entry ≢ 0xFF)
+  unfolding protectionOf isProtected
+  copyable-says = (λ e. eqb-false _ _ (sym (says-test _) ∙ ap says-protected e), λ n. rw (ne-eqb _ _ n))
+
+-- ---- a used entry and its file
+
 module _ (entry : List ℕ) (u : isUsed entry ≡ true) where
   pub right-entry : wrongEntry entry ≡ false → (firstBlock entry < 200) × (1 ≤ size entry) × (size entry ≤ 200)
   unfolding wrongEntry wrongFirst wrongSize
   right-entry e =
-      let a = or-false-right (wrongFlag (flag entry)) _ (or-false-right (wrongKind entry) _ (rw u at e)) in
+      let a = or-false-right (wrongKind entry) _ (rw u at e) in
       let b = or-false-right (wrongFirst entry) _ a in
       let n = not-false _ (or-false-left _ (wrongOffset entry) b) in
       (ltb-true _ _ (not-false _ (or-false-left _ _ a)), leb-true _ _ (and-true-left (leb 1 (size entry)) _ n), leb-true _ _ (and-true-right (leb 1 (size entry)) _ n))

@@ -2,29 +2,31 @@
 -- file's blocks in order as its bytes. Assumes nothing.
 use Prim.Native.Nat.{ℕ, _*_, _-_, _≤_, _<_}
 use mathlib.Core.Path.{_≡_, refl, sym, ap, _∙_}
-use mathlib.Core.Bool.{Bool, true, false, _&&_, or-true}
+use mathlib.Core.Bool.{Bool, true, false, cond, _&&_, or-true, false≢true}
 use mathlib.Core.Logic.{_≢_, _⊎_, ⊎-elim}
 use mathlib.Core.List.{List, [], map, append-nil}
-use mathlib.Core.Option.{none, some}
+use mathlib.Core.Option.{Option, none, some}
 use native.Mathlib.Omega.{arith}
 use lib.ListN.{length, getD, take, drop, length-map, length-drop, List·getD-map}
-use lib.Seq.{length-take-le}
+use lib.Seq.{length-take-le, getD-take, getD-drop}
 use borrow.Author.Tests.{eq-eqb, ne-eqb, lt-leb, le-leb}
 use Rattle.words.specs.Lists.{concat, numbersFrom}
 use Rattle.words.proofs.ListLaws.{All, all-map, all-mono, map-same}
-use Rattle.words.proofs.SearchLaws.{lowest-is, lowest-nothing}
+use Rattle.words.proofs.SearchLaws.{lowest-some, lowest-is, lowest-nothing}
 use Rattle.words.specs.Words.{sameBytes}
 use Rattle.words.proofs.WordLaws.{same-refl, ne-same}
 use Rattle.words.proofs.PartsLaws.{part-at, numbers-read}
 use Rattle.words.proofs.JoinLaws.{none-range}
 use Rattle.verdicts.specs.declared.Place.the-variants.{Whole}
-use Rattle.verdicts.specs.Rows.{done, refusedAt}
-use Rattle.card_model.specs.Layout.{cardLength, blockAt, tableOf, directoryOf}
-use Rattle.card_model.specs.Entries.{firstBlock, nameOf, size, isUsed, isNamed, nameTaken}
+use Rattle.verdicts.specs.declared.Verdict.{Verdict}
+use Rattle.verdicts.specs.Rows.{done, refusedAt, accepted}
+use Rattle.card_model.specs.Layout.{cardLength, blockAt, tableOf, entryPlace, directoryOf}
+use Rattle.card_model.specs.Entries.{flag, firstBlock, nameOf, size, isUsed, isNamed, nameTaken}
 use Rattle.card_model.specs.Files.{chain}
-use Rattle.card_model.specs.Calls.{firstUsed, listedEntry, notListed, listOf, entryNamed, readRows, readVerdict, fileBlock, readBuffer}
+use Rattle.card_model.specs.Calls.{verdictOf, firstUsed, listedEntry, listedFrom, notListed, listOf, entryNamed, readRows, readVerdict, fileBlock, readBuffer}
 use Rattle.card_model.specs.Sound.{SoundCard, NoRowRefuses, entryOn, fileOn, fileBytes, UsedEntry}
-use Rattle.card_model.proofs.EntryLaws.{entry-length, right-entry, file-chain}
+use Rattle.card_model.specs.Theorems.{ShowsFlag, ShowsNothing}
+use Rattle.card_model.proofs.EntryLaws.{entry-is, entry-length, protected-says, copyable-says, right-entry, file-chain}
 use Rattle.card_model.proofs.SoundLaws.{sound-rows}
 use Rattle.card_model.proofs.ChainLaws.{chain-length, chain-below}
 
@@ -44,6 +46,54 @@ unfolding listOf firstUsed
 lists-none card s start f =
     let e : firstUsed (directoryOf card) start ≡ none = lowest-nothing _ start (208 - start) (λ j a b. f j a (omega arith)) in
     rw (s, e)
+
+-- what it says of the copy flag
+entry-shows : (card : List ℕ) (i : ℕ) → i < 208 → ShowsFlag card (listedEntry i (entryOn card i))
+unfolding listedEntry flag
+entry-shows card i h =
+    let from = drop (entryPlace i) card in
+    record {
+      raw = ap (λ (e : List ℕ). getD e 1 0) (entry-is card i h) ∙ getD-take 32 from 1 0 (omega arith) ∙ getD-drop (entryPlace i) card 1 0;
+      protected = protected-says (entryOn card i);
+      copyable = copyable-says (entryOn card i);
+    }
+
+pub lists-flag : (card : List ℕ) (start : ℕ) → listOf card start .verdict .number ≡ 0 → ShowsFlag card (listOf card start)
+unfolding listOf firstUsed
+lists-flag card start v = go (accepted (verdictOf card)) refl (firstUsed (directoryOf card) start) refl v
+  where
+    go : (t : Bool) → accepted (verdictOf card) ≡ t → (found : Option ℕ) → firstUsed (directoryOf card) start ≡ found
+        → cond t (listedFrom (directoryOf card) found) (notListed (verdictOf card)) .verdict .number ≡ 0
+        → ShowsFlag card (cond t (listedFrom (directoryOf card) found) (notListed (verdictOf card)))
+    go false e found f v = absurd (false≢true (sym e ∙ eq-eqb _ 0 v))
+    go true e none f v = absurd (omega (arith, v))
+    go true e (some i) f v =
+        let l = lowest-some (λ j. isUsed (entryOn card j)) start (208 - start) i f in
+        entry-shows card i (omega (arith, l .low, l .high))
+
+-- what is refused shows nothing
+pub lists-nothing : (card : List ℕ) (start : ℕ) → listOf card start .verdict .number ≢ 0 → ShowsNothing (listOf card start)
+unfolding listOf listedEntry
+lists-nothing card start n = go (accepted (verdictOf card)) (firstUsed (directoryOf card) start) n
+  where
+    nothing : (v : Verdict) → ShowsNothing (notListed v)
+    nothing v = record {
+      no-entry = refl;
+      no-kind = refl;
+      no-flag = refl;
+      not-protected = refl;
+      no-first = refl;
+      no-size = refl;
+      no-offset = refl;
+      no-name = refl;
+      no-time = refl;
+    }
+
+    go : (t : Bool) (found : Option ℕ) → cond t (listedFrom (directoryOf card) found) (notListed (verdictOf card)) .verdict .number ≢ 0
+        → ShowsNothing (cond t (listedFrom (directoryOf card) found) (notListed (verdictOf card)))
+    go false found n = nothing (verdictOf card)
+    go true none n = nothing (refusedAt 31 Whole)
+    go true (some i) n = absurd (n refl)
 
 -- ---- blocks and names
 

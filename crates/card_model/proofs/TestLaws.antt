@@ -14,11 +14,11 @@ use Rattle.words.proofs.Bools.{or-false-left, or-false-right, or-true-either, a
 use Rattle.words.proofs.WordLaws.{same-eq, eq-same}
 use Rattle.words.proofs.JoinLaws.{any-concat, any-among, among-any, in-range, any-range}
 use Rattle.card_model.specs.Layout.{tableOf, directoryOf}
-use Rattle.card_model.specs.Entries.{flag, firstBlock, nameOf, size, isUsed, isData, isGame}
-use Rattle.card_model.specs.Entries.{wrongKind, wrongFlag, wrongFirst, wrongSize, wrongOffset, wrongEntry, isNamed, nameTaken}
+use Rattle.card_model.specs.Entries.{firstBlock, nameOf, size, isUsed, isData, isGame}
+use Rattle.card_model.specs.Entries.{wrongKind, wrongFirst, wrongSize, wrongOffset, wrongEntry, isNamed, nameTaken}
 use Rattle.card_model.specs.Files.{chain, chainOf, badChain, filesBefore, sharesBlock, rising, breaksGameRule}
 use Rattle.card_model.specs.Sound.{entryOn, fileOn}
-use Rattle.card_model.specs.Theorems.{WrongFields, wrong-type, wrong-flag, wrong-first, no-block, too-many, wrong-offset, IsChain}
+use Rattle.card_model.specs.Theorems.{WrongFields, wrong-type, wrong-first, no-block, too-many, wrong-offset, IsChain}
 use Rattle.card_model.specs.Theorems.{WrongGame, second-game, not-from-0, not-rising, too-long}
 use Rattle.card_model.proofs.ChainLaws.{one-more, chain-exactly}
 
@@ -29,22 +29,17 @@ either {a} {b} = or-true-either a b
 
 module _ (entry : List ℕ) where
   pub entry-tells : wrongEntry entry ≡ true → (isUsed entry ≡ true) × WrongFields entry
-  unfolding wrongEntry wrongKind isData isGame wrongFlag wrongFirst wrongSize wrongOffset
+  unfolding wrongEntry wrongKind isData isGame wrongFirst wrongSize wrongOffset
   entry-tells e =
       let t = and-true-right (isUsed entry) _ e in (
         and-true-left (isUsed entry) _ e,
-        ⊎-elim type (λ a. ⊎-elim flagged (λ b. ⊎-elim first (λ c. ⊎-elim sized offset (either c)) (either b)) (either a)) (either t),
+        ⊎-elim type (λ a. ⊎-elim first (λ b. ⊎-elim sized offset (either b)) (either a)) (either t),
       )
     where
       type : wrongKind entry ≡ true → WrongFields entry
       type t =
           let n = not-true _ t in
           wrong-type (eqb-false _ _ (or-false-left _ _ n)) (eqb-false _ _ (or-false-right (isData entry) _ n))
-
-      flagged : wrongFlag (flag entry) ≡ true → WrongFields entry
-      flagged t =
-          let n = not-true _ t in
-          wrong-flag (eqb-false _ _ (or-false-left _ _ n)) (eqb-false _ _ (or-false-right (eqb (flag entry) _) _ n))
 
       first : wrongFirst entry ≡ true → WrongFields entry
       first t = wrong-first (ltb-false _ _ (not-true _ t))
@@ -57,9 +52,8 @@ module _ (entry : List ℕ) where
       offset t = wrong-offset (and-true-left _ _ t) (ltb-false _ _ (not-true _ (and-true-right (isData entry) _ t)))
 
   pub entry-is-wrong : isUsed entry ≡ true → WrongFields entry → wrongEntry entry ≡ true
-  unfolding wrongEntry wrongKind isData isGame wrongFlag wrongFirst wrongSize wrongOffset
+  unfolding wrongEntry wrongKind isData isGame wrongFirst wrongSize wrongOffset
   entry-is-wrong u (wrong-type a b) = rw (u, ne-eqb _ _ a, ne-eqb _ _ b)
-  entry-is-wrong u (wrong-flag a b) = rw (u, ne-eqb _ _ a, ne-eqb _ _ b) (simp or-true)
   entry-is-wrong u (wrong-first h) = rw (u, le-ltb _ _ h) (simp or-true)
   entry-is-wrong u (no-block h) = rw (u, lt-leb _ _ h) (simp or-true)
   entry-is-wrong u (too-many h) = rw (u, lt-leb _ _ h) (simp (and-false, or-true))

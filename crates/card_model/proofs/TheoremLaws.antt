@@ -27,6 +27,9 @@ theorems = record {
   one-game = files.one-game;
   lists = reads.lists;
   lists-none = reads.lists-none;
+  lists-flag = reads.lists-flag;
+  lists-nothing = reads.lists-nothing;
+  protected-exactly = entries.protected-exactly;
   found-by-name = reads.found-by-name;
   reads-block = reads.reads-block;
   reads-file = reads.reads-file;
@@ -39,5 +42,6 @@ theorems = record {
   files-sound = witnesses.files-sound;
   files-kinds = witnesses.files-kinds;
   files-are = witnesses.files-are;
+  files-protection = witnesses.files-protection;
   files-orphans = witnesses.files-orphans;
 }

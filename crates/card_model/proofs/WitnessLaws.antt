@@ -15,11 +15,12 @@ use Rattle.words.specs.Words.{word, wordBytes}
 use Rattle.words.proofs.ListLaws.{All, concat-length, take-drop, drop-replicate, take-replicate, map-same}
 use Rattle.words.proofs.PartsLaws.{part-at, numbers-read, word-past, words-at, words-length}
 use Rattle.verdicts.specs.Rows.{done}
+use Rattle.card_model.specs.declared.CopyProtection.the-variants.{Protected, Copyable}
 use Rattle.card_model.specs.Layout.{cardLength, blockAt, rootOf, fatPlace, tableOf, entryBlock, entryByte, entryPlace, directoryOf}
 use Rattle.card_model.specs.Table.{magicRow, rightFields, fieldsRow, fatEntry, linkOf, linkAt, systemEntry}
 use Rattle.card_model.specs.Table.{wrongSystem, wrongHidden, wrongUser, systemRow, hiddenRow, userRow}
-use Rattle.card_model.specs.Entries.{kind, flag, firstBlock, nameOf, size, headerOffset, isUsed, isData, isGame, entryAt}
-use Rattle.card_model.specs.Entries.{wrongKind, wrongFlag, wrongFirst, wrongSize, wrongOffset, wrongEntry, entryRow, isNamed, nameTaken, nameRow}
+use Rattle.card_model.specs.Entries.{kind, flag, isProtected, protectionOf, firstBlock, nameOf, size, headerOffset, isUsed, isData, isGame, entryAt}
+use Rattle.card_model.specs.Entries.{wrongKind, wrongFirst, wrongSize, wrongOffset, wrongEntry, entryRow, isNamed, nameTaken, nameRow}
 use Rattle.card_model.specs.Files.{chainStep, chain, chainOf, badChain, chainRow, fileOf, filesBefore}
 use Rattle.card_model.specs.Files.{sharesBlock, sharingRow, breaksGameRule, gameRow, isOrphan, orphans}
 use Rattle.card_model.specs.Calls.{lengthRow, tableRows, directoryRows, verdictOf}
@@ -171,17 +172,22 @@ abbrev FilesAre : List ℕ → List (List ℕ) → Type 0
 FilesAre t d =
     (fileOf t (entryAt d 0) ≡ 199 ∷ 198 ∷ []) × (fileOf t (entryAt d 1) ≡ 0 ∷ 1 ∷ 2 ∷ []) × (fileOf t (entryAt d 3) ≡ 190 ∷ [])
 
+abbrev ProtectionIs : List (List ℕ) → Type 0
+ProtectionIs d =
+    (protectionOf (entryAt d 0) ≡ Copyable) × (protectionOf (entryAt d 1) ≡ Copyable) × (protectionOf (entryAt d 3) ≡ Protected)
+
 record Both : Type 0 where
   none-there : Computed noEntries noUsers
   some-there : Computed someEntries someUsers
   one-orphan : orphans (table someUsers) (directory someEntries) ≡ 1
   kinds : Kinds (directory someEntries)
   files : FilesAre (table someUsers) (directory someEntries)
+  protection : ProtectionIs (directory someEntries)
 
 both : Both
 unfolding table directory noEntries noUsers someEntries someUsers entryBytes unusedEntry systemTable rootBlock word wordBytes tableRows magicRow
-    rightFields fieldsRow fatEntry linkOf linkAt systemEntry wrongSystem wrongHidden wrongUser systemRow hiddenRow userRow directoryRows kind flag
-    firstBlock nameOf size headerOffset isUsed isData isGame entryAt wrongKind wrongFlag wrongFirst wrongSize wrongOffset wrongEntry entryRow
+    rightFields fieldsRow fatEntry linkOf linkAt systemEntry wrongSystem wrongHidden wrongUser systemRow hiddenRow userRow directoryRows kind flag isProtected protectionOf
+    firstBlock nameOf size headerOffset isUsed isData isGame entryAt wrongKind wrongFirst wrongSize wrongOffset wrongEntry entryRow
     isNamed nameTaken nameRow chainStep chain chainOf badChain chainRow fileOf filesBefore sharesBlock sharingRow breaksGameRule gameRow isOrphan orphans
 both = record {
   none-there = record { sizes = refl; whole = refl; table-rows = refl; directory-rows = refl };
@@ -189,6 +195,7 @@ both = record {
   one-orphan = refl;
   kinds = (refl, refl, refl);
   files = (refl, refl, refl);
+  protection = (refl, refl, refl);
 }
 
 -- ---- the theorems
@@ -220,6 +227,9 @@ files-kinds = rw files-directory (both .kinds)
 
 pub files-are : FilesAre (tableOf filesCard) (directoryOf filesCard)
 files-are = rw (files-directory, files-table) (both .files)
+
+pub files-protection : ProtectionIs (directoryOf filesCard)
+files-protection = rw files-directory (both .protection)
 
 pub files-orphans : orphans (tableOf filesCard) (directoryOf filesCard) ≡ 1
 files-orphans = rw (files-directory, files-table) (both .one-orphan)

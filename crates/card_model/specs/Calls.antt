@@ -12,6 +12,7 @@ use Rattle.verdicts.specs.declared.Place.the-variants.{Whole}
 use Rattle.verdicts.specs.declared.Verdict.{Verdict}
 use Rattle.verdicts.specs.Rows.{done, refusedAt, accepted, rowAt, unlessRefused}
 use Rattle.card_model.specs.declared.Checked.{Checked}
+use Rattle.card_model.specs.declared.CopyProtection.the-variants.{Copyable}
 use Rattle.card_model.specs.declared.Listing.{Listing}
 use Rattle.card_model.specs.Layout.{cardLength, blockAt, rootOf, tableOf, directoryOf}
 use Rattle.card_model.specs.Table.{magicRow, fieldsRow, systemRow, hiddenRow, userRow}
@@ -64,13 +65,14 @@ notChecked v = record { verdict = v; orphans = 0 }
 
 -- ---- list
 
--- Nothing but the verdict, with zeros for an entry.
+-- Nothing but the verdict, with zeros for an entry, which say copyable.
 abbrev pub notListed : Verdict → Listing
 notListed v = record {
   verdict = v;
   entry = 0;
   kind = 0;
   flag = 0;
+  protection = Copyable;
   first = 0;
   size = 0;
   offset = 0;
@@ -78,13 +80,15 @@ notListed v = record {
   time = replicate 8 0;
 }
 
--- "its entry number, type, flag, first block, size, header offset, name and time"
+-- "its entry number, type, flag, first block, size, header offset, name and time"; of the flag "protected or copyable and the raw byte"
+-- (request 3)
 unfoldable pub listedEntry : ℕ → List ℕ → Listing
 listedEntry i e = record {
   verdict = done;
   entry = i;
   kind = entry.kind e;
   flag = entry.flag e;
+  protection = entry.protectionOf e;
   first = entry.firstBlock e;
   size = entry.size e;
   offset = entry.headerOffset e;

@@ -2,7 +2,7 @@
 -- list of its 32 bytes, a directory the list of its 208 entries.
 -- Assumes nothing.
 use Prim.Native.Nat.{ℕ}
-use mathlib.Core.Bool.{Bool, not, _&&_, _||_}
+use mathlib.Core.Bool.{Bool, not, cond, _&&_, _||_}
 use mathlib.Core.List.{List, []}
 use lib.Dec.{eqb, ltb, leb}
 use lib.ListN.{getD, take, drop}
@@ -12,6 +12,8 @@ use Rattle.words.specs.Words.{word, sameBytes}
 use Rattle.verdicts.specs.declared.Place.the-variants.{Entry}
 use Rattle.verdicts.specs.declared.Verdict.{Verdict}
 use Rattle.verdicts.specs.Rows.{rowOver}
+use Rattle.card_model.specs.declared.CopyProtection.{CopyProtection}
+use Rattle.card_model.specs.declared.CopyProtection.the-variants.{Protected, Copyable}
 
 -- ---- fields (002, 003: "Directory"; 003's offsets 008 and 00a of the second row are 0x18 and 0x1a)
 
@@ -19,9 +21,16 @@ use Rattle.verdicts.specs.Rows.{rowOver}
 unfoldable pub kind : List ℕ → ℕ
 kind entry = getD entry 0 0
 
--- The copy flag.
+-- The copy flag. Request 3 amends document 01's "copy flag 00 or FF": no row looks at it.
 unfoldable pub flag : List ℕ → ℕ
 flag entry = getD entry 1 0
+
+-- "FF is protected and anything else may be copied" (request 3; 003: "0xff: Copy Protected", "Other: Copyable")
+unfoldable pub isProtected : List ℕ → Bool
+isProtected entry = eqb (flag entry) 0xFF
+
+unfoldable pub protectionOf : List ℕ → CopyProtection
+protectionOf entry = cond (isProtected entry) Protected Copyable
 
 unfoldable pub firstBlock : List ℕ → ℕ
 firstBlock entry = word entry 0x02
@@ -51,14 +60,10 @@ isData entry = eqb (kind entry) 0x33
 unfoldable pub isGame : List ℕ → Bool
 isGame entry = eqb (kind entry) 0xCC
 
--- ---- 26: "bad directory entry", five tests
+-- ---- 26: "bad directory entry", four tests
 
 unfoldable pub wrongKind : List ℕ → Bool
 wrongKind entry = not (isData entry || isGame entry)
-
--- "copy flag 00 or FF": of the byte alone, as a file that is to be written gives it.
-unfoldable pub wrongFlag : ℕ → Bool
-wrongFlag byte = not (eqb byte 0x00 || eqb byte 0xFF)
 
 -- "first block (0x02) below 200"
 unfoldable pub wrongFirst : List ℕ → Bool
@@ -73,7 +78,7 @@ unfoldable pub wrongOffset : List ℕ → Bool
 wrongOffset entry = isData entry && not (ltb (headerOffset entry) (size entry))
 
 unfoldable pub wrongEntry : List ℕ → Bool
-wrongEntry entry = isUsed entry && (wrongKind entry || (wrongFlag (flag entry) || (wrongFirst entry || (wrongSize entry || wrongOffset entry))))
+wrongEntry entry = isUsed entry && (wrongKind entry || (wrongFirst entry || (wrongSize entry || wrongOffset entry)))
 
 -- ---- over the directory
 

@@ -40,7 +40,7 @@ entryBytes kind flag first letter size offset =
 -- The data files are in 199 and 198, and in 190, the game in blocks 0 to 2.
 unfoldable pub someEntries : List (List ℕ)
 someEntries =
-    entryBytes 0x33 0x00 199 0x41 2 0 ∷ entryBytes 0xCC 0xFF 0 0x42 3 1 ∷ unusedEntry ∷ entryBytes 0x33 0xFF 190 0x43 1 0
+    entryBytes 0x33 0xFE 199 0x41 2 0 ∷ entryBytes 0xCC 0x00 0 0x42 3 1 ∷ unusedEntry ∷ entryBytes 0x33 0xFF 190 0x43 1 0
     ∷ replicate 12 unusedEntry
 
 -- Beside their blocks 50 is an orphan and 60 damaged.

@@ -13,9 +13,11 @@ use Rattle.verdicts.specs.declared.Place.{Place}
 use Rattle.verdicts.specs.declared.Place.the-variants.{Whole, Block, Entry}
 use Rattle.verdicts.specs.declared.Verdict.{Verdict}
 use Rattle.verdicts.specs.Rows.{done, placeNumber, refusedAt}
-use Rattle.card_model.specs.Layout.{cardLength, rootOf, tableOf, directoryOf}
+use Rattle.card_model.specs.declared.CopyProtection.the-variants.{Protected, Copyable}
+use Rattle.card_model.specs.declared.Listing.{Listing}
+use Rattle.card_model.specs.Layout.{cardLength, rootOf, tableOf, entryPlace, directoryOf}
 use Rattle.card_model.specs.Table.{fatEntry, isFree, isDamaged, countBlocks, systemEntry}
-use Rattle.card_model.specs.Entries.{kind, flag, firstBlock, nameOf, size, headerOffset, isUsed, isData, isGame}
+use Rattle.card_model.specs.Entries.{kind, flag, isProtected, protectionOf, firstBlock, nameOf, size, headerOffset, isUsed, isData, isGame}
 use Rattle.card_model.specs.Files.{chain, filesBefore}
 use Rattle.card_model.specs.Files as files
 use Rattle.card_model.specs.Calls.{verdictOf, checkOf, notChecked, listedEntry, notListed, listOf, entryNamed, readVerdict, readBuffer}
@@ -47,8 +49,6 @@ pub data WrongRoot (root : List ℕ) : Type 0 where
 pub data WrongFields (entry : List ℕ) : Type 0 where
   -- "type is 33 (data) or CC (game)"
   wrong-type : kind entry ≢ 0x33 → kind entry ≢ 0xCC → WrongFields entry
-  -- "copy flag 00 or FF"
-  wrong-flag : flag entry ≢ 0x00 → flag entry ≢ 0xFF → WrongFields entry
   -- "first block (0x02) below 200"
   wrong-first : 200 ≤ firstBlock entry → WrongFields entry
   -- "size (0x18) 1..200"
@@ -112,6 +112,25 @@ pub record RefusedCalls (card : List ℕ) (v : Verdict) : Type 0 where
   pub read : (name : List ℕ) (index : ℕ) (buffer : List ℕ) → readVerdict card name index buffer ≡ v
   pub unread : (name : List ℕ) (index : ℕ) (buffer : List ℕ) → readBuffer card name index buffer ≡ buffer
 
+-- What a listing that is done says of the copy flag: "protected or copyable and the raw byte", which is byte 1 of the entry.
+pub record ShowsFlag (card : List ℕ) (listing : Listing) : Type 0 where
+  pub raw : listing .flag ≡ getD card (entryPlace (listing .entry) + 1) 0
+  -- "FF is protected and anything else may be copied"
+  pub protected : (listing .protection ≡ Protected) ↔ (listing .flag ≡ 0xFF)
+  pub copyable : (listing .protection ≡ Copyable) ↔ (listing .flag ≢ 0xFF)
+
+-- A listing that is refused gives no entry: zeros, which say copyable.
+pub record ShowsNothing (listing : Listing) : Type 0 where
+  pub no-entry : listing .entry ≡ 0
+  pub no-kind : listing .kind ≡ 0
+  pub no-flag : listing .flag ≡ 0
+  pub not-protected : listing .protection ≡ Copyable
+  pub no-first : listing .first ≡ 0
+  pub no-size : listing .size ≡ 0
+  pub no-offset : listing .offset ≡ 0
+  pub no-name : listing .name ≡ replicate 12 0
+  pub no-time : listing .time ≡ replicate 8 0
+
 pub record Theorems : Type 0 where
   -- the check is passed exactly when no row refuses
   pub sound-exactly : (card : List ℕ) → SoundCard card ↔ NoRowRefuses card
@@ -148,6 +167,10 @@ pub record Theorems : Type 0 where
       → ((j : ℕ) → start ≤ j → j < i → isUsed (entryOn card j) ≡ false) → listOf card start ≡ listedEntry i (entryOn card i)
   pub lists-none : (card : List ℕ) → SoundCard card → (start : ℕ)
       → ((j : ℕ) → start ≤ j → j < 208 → isUsed (entryOn card j) ≡ false) → listOf card start ≡ notListed (refusedAt 31 Whole)
+  -- and what its copy flag says
+  pub lists-flag : (card : List ℕ) (start : ℕ) → listOf card start .verdict .number ≡ 0 → ShowsFlag card (listOf card start)
+  pub lists-nothing : (card : List ℕ) (start : ℕ) → listOf card start .verdict .number ≢ 0 → ShowsNothing (listOf card start)
+  pub protected-exactly : (entry : List ℕ) → (isProtected entry ≡ true) ↔ (flag entry ≡ 0xFF)
   -- a name finds its own entry
   pub found-by-name : (card : List ℕ) → SoundCard card → (i : ℕ) → UsedEntry card i → entryNamed (directoryOf card) (nameOf (entryOn card i)) ≡ some i
   -- the blocks of a file, read in order, are its bytes
@@ -172,4 +195,6 @@ pub record Theorems : Type 0 where
   pub files-sound : SoundCard filesCard
   pub files-kinds : (isData (entryOn filesCard 0) ≡ true) × (isGame (entryOn filesCard 1) ≡ true) × (isData (entryOn filesCard 3) ≡ true)
   pub files-are : (fileOn filesCard 0 ≡ 199 ∷ 198 ∷ []) × (fileOn filesCard 1 ≡ 0 ∷ 1 ∷ 2 ∷ []) × (fileOn filesCard 3 ≡ 190 ∷ [])
+  pub files-protection :
+      (protectionOf (entryOn filesCard 0) ≡ Copyable) × (protectionOf (entryOn filesCard 1) ≡ Copyable) × (protectionOf (entryOn filesCard 3) ≡ Protected)
   pub files-orphans : files.orphans (tableOf filesCard) (directoryOf filesCard) ≡ 1

@@ -17,12 +17,20 @@ pub struct Checked {
     pub orphans: usize,
 }
 
-// The answer of a listing: a used entry's number and fields; zeros where it is refused.
+// What an entry's copy flag says of its file: source 003, "0xff: Copy Protected", "Other: Copyable".
+pub enum CopyProtection {
+    Protected,
+    Copyable,
+}
+
+// The answer of a listing: a used entry's number and fields, the flag as it stands and what it says; zeros, and copyable, where it is
+// refused.
 pub struct Listing {
     pub verdict: Verdict,
     pub entry: usize,
     pub kind: u8,
     pub flag: u8,
+    pub protection: CopyProtection,
     pub first: usize,
     pub size: usize,
     pub offset: usize,

@@ -26,7 +26,7 @@ short-unused = refl
 
 pub short-entry :
     newEntry 0x33 (fileOfSize 0x43 2) 1 199
-    ≡ 0x33 ∷ 0x00 ∷ 199 ∷ 0 ∷ replicate 12 0x43 ++ (replicate 8 0x20 ++ (2 ∷ 0 ∷ 1 ∷ 0 ∷ 0 ∷ 0 ∷ 0 ∷ 0 ∷ []))
+    ≡ 0x33 ∷ 0xFE ∷ 199 ∷ 0 ∷ replicate 12 0x43 ++ (replicate 8 0x20 ++ (2 ∷ 0 ∷ 1 ∷ 0 ∷ 0 ∷ 0 ∷ 0 ∷ 0 ∷ []))
 unfolding entryOf fileOfSize wordBytes
 short-entry = refl
 

@@ -16,8 +16,8 @@ use Rattle.verdicts.specs.declared.Place.the-variants.{Whole, Entry}
 use Rattle.verdicts.specs.Rows.{done, refusedAt}
 use Rattle.card_model.specs.Layout.{fatPlace, tableOf, entryBlock, entryByte, entryPlace, directoryOf}
 use Rattle.card_model.specs.Table.{magicRow, rightFields, fieldsRow, fatEntry, linkOf, linkAt, systemEntry, wrongSystem, wrongHidden, wrongUser, systemRow, hiddenRow, userRow}
-use Rattle.card_model.specs.Entries.{kind, flag, firstBlock, nameOf, size, headerOffset, isUsed, isData, isGame, entryAt}
-use Rattle.card_model.specs.Entries.{wrongKind, wrongFlag, wrongFirst, wrongSize, wrongOffset, wrongEntry, entryRow, isNamed, nameTaken, nameRow}
+use Rattle.card_model.specs.Entries.{kind, firstBlock, nameOf, size, headerOffset, isUsed, isData, isGame, entryAt}
+use Rattle.card_model.specs.Entries.{wrongKind, wrongFirst, wrongSize, wrongOffset, wrongEntry, entryRow, isNamed, nameTaken, nameRow}
 use Rattle.card_model.specs.Files.{chainStep, chain, chainOf, badChain, chainRow, fileOf, filesBefore, sharesBlock, sharingRow, breaksGameRule, gameRow, isOrphan, orphans}
 use Rattle.card_model.specs.Calls.{tableRows, directoryRows, entryNamed}
 use Rattle.card_model.specs.Examples.{rootBlock, systemTable, unusedEntry, entryBytes, emptyCard, cardOf}
@@ -73,8 +73,8 @@ noUsers = replicate 200 0xFFFC
 
 empty-computed : Computed noEntries noUsers
 unfolding table directory noEntries noUsers entryBytes unusedEntry systemTable rootBlock word wordBytes tableRows magicRow
-    rightFields fieldsRow fatEntry linkOf linkAt systemEntry wrongSystem wrongHidden wrongUser systemRow hiddenRow userRow directoryRows kind flag
-    firstBlock nameOf size headerOffset isUsed isData isGame entryAt wrongKind wrongFlag wrongFirst wrongSize wrongOffset wrongEntry entryRow
+    rightFields fieldsRow fatEntry linkOf linkAt systemEntry wrongSystem wrongHidden wrongUser systemRow hiddenRow userRow directoryRows kind
+    firstBlock nameOf size headerOffset isUsed isData isGame entryAt wrongKind wrongFirst wrongSize wrongOffset wrongEntry entryRow
     isNamed nameTaken nameRow chainStep chain chainOf badChain chainRow fileOf filesBefore sharesBlock sharingRow breaksGameRule gameRow
 empty-computed = record { sizes = refl; whole = refl; table-rows = refl; directory-rows = refl }
 
@@ -86,7 +86,7 @@ empty-are :
     (writeRows (table noUsers) (directory noEntries) (fileOfSize 0x43 200) 199 ≡ done)
     × (take 200 (freeBlocks (table noUsers)) ≡ numbersDown 200)
     × (lowestUnused (directory noEntries) ≡ some 0)
-unfolding table directory noEntries noUsers entryBytes unusedEntry systemTable word wordBytes fatEntry linkOf linkAt kind nameOf isUsed wrongFlag
+unfolding table directory noEntries noUsers entryBytes unusedEntry systemTable word wordBytes fatEntry linkOf linkAt kind nameOf isUsed
     entryAt isNamed entryNamed freeBlocks lowestUnused badLengths dataRows takenRow roomRow writeRows deleteRows fileOfSize
 empty-are = (refl, refl, refl)
 
@@ -109,8 +109,8 @@ d = directory scatteredEntries
 
 scattered-computed : Computed scatteredEntries scatteredUsers
 unfolding table directory scatteredEntries scatteredUsers entryBytes unusedEntry systemTable rootBlock word wordBytes tableRows magicRow
-    rightFields fieldsRow fatEntry linkOf linkAt systemEntry wrongSystem wrongHidden wrongUser systemRow hiddenRow userRow directoryRows kind flag
-    firstBlock nameOf size headerOffset isUsed isData isGame entryAt wrongKind wrongFlag wrongFirst wrongSize wrongOffset wrongEntry entryRow
+    rightFields fieldsRow fatEntry linkOf linkAt systemEntry wrongSystem wrongHidden wrongUser systemRow hiddenRow userRow directoryRows kind
+    firstBlock nameOf size headerOffset isUsed isData isGame entryAt wrongKind wrongFirst wrongSize wrongOffset wrongEntry entryRow
     isNamed nameTaken nameRow chainStep chain chainOf badChain chainRow fileOf filesBefore sharesBlock sharingRow breaksGameRule gameRow
 scattered-computed = record { sizes = refl; whole = refl; table-rows = refl; directory-rows = refl }
 
@@ -129,16 +129,15 @@ scattered-are :
     × (writeRows t d (fileOfSize 0x42 196) 0 ≡ refusedAt 29 (Entry 1))
     × (writeRows t d (fileOfSize 0x42 2) 2 ≡ refusedAt 26 Whole)
     × (writeRows t d (fileOfSize 0x42 201) 201 ≡ refusedAt 33 Whole)
-    × (writeRows t d (givenFile 0x01 (replicate 12 0x42) (replicate 8 0x20) (replicate 512 0x11)) 0 ≡ refusedAt 26 Whole)
     × (writeRows t d (givenFile 0x00 (replicate 11 0x43) (replicate 8 0x20) (replicate 512 0x11)) 0 ≡ refusedAt 33 Whole)
     × (writeRows t d (givenFile 0x00 (replicate 12 0x43) (replicate 7 0x20) (replicate 512 0x11)) 0 ≡ refusedAt 33 Whole)
     × (writeRows t d (givenFile 0x00 (replicate 12 0x43) (replicate 8 0x20) (replicate 513 0x11)) 0 ≡ refusedAt 33 Whole)
     × (writeRows t d (fileOfSize 0x42 0) 0 ≡ refusedAt 33 Whole)
     × (deleteRows d (replicate 12 0x43) ≡ refusedAt 31 Whole)
     × (deleteRows d (replicate 11 0x41) ≡ refusedAt 33 Whole)
-unfolding table directory scatteredEntries scatteredUsers entryBytes unusedEntry systemTable word wordBytes fatEntry linkOf linkAt kind nameOf isUsed wrongFlag
+unfolding table directory scatteredEntries scatteredUsers entryBytes unusedEntry systemTable word wordBytes fatEntry linkOf linkAt kind nameOf isUsed
     entryAt isNamed entryNamed freeBlocks lowestUnused badLengths dataRows takenRow roomRow writeRows deleteRows fileOfSize
-scattered-are = (refl, refl, refl, refl, refl, refl, refl, refl, refl, refl, refl, refl, refl, refl, refl, refl, refl)
+scattered-are = (refl, refl, refl, refl, refl, refl, refl, refl, refl, refl, refl, refl, refl, refl, refl, refl)
 
 pub scattered-sound : SoundCard scatteredCard
 scattered-sound = scattered-known .sound-card
@@ -173,21 +172,20 @@ scattered-refused = record {
   taken-name-before-room = write-on scattered-known _ 0 ∙ scattered-are .7;
   offset-before-taken-name = write-on scattered-known _ 2 ∙ scattered-are .8;
   length-before-offset = write-on scattered-known _ 201 ∙ scattered-are .9;
-  flag-before-taken-name = write-on scattered-known _ 0 ∙ scattered-are .10;
-  short-name = write-on scattered-known _ 0 ∙ scattered-are .11;
-  short-time = write-on scattered-known _ 0 ∙ scattered-are .12;
-  part-of-block = write-on scattered-known _ 0 ∙ scattered-are .13;
-  no-block = write-on scattered-known _ 0 ∙ scattered-are .14;
-  absent-name = delete-on scattered-known (replicate 12 0x43) ∙ scattered-are .15;
-  short-name-to-delete = delete-on scattered-known (replicate 11 0x41) ∙ scattered-are .16;
+  short-name = write-on scattered-known _ 0 ∙ scattered-are .10;
+  short-time = write-on scattered-known _ 0 ∙ scattered-are .11;
+  part-of-block = write-on scattered-known _ 0 ∙ scattered-are .12;
+  no-block = write-on scattered-known _ 0 ∙ scattered-are .13;
+  absent-name = delete-on scattered-known (replicate 12 0x43) ∙ scattered-are .14;
+  short-name-to-delete = delete-on scattered-known (replicate 11 0x41) ∙ scattered-are .15;
 }
 
 -- ---- the card whose entry 0 is unused and whose block 199 is free
 
 open-computed : Computed openEntries openUsers
 unfolding table directory openEntries openUsers entryBytes unusedEntry systemTable rootBlock word wordBytes tableRows magicRow
-    rightFields fieldsRow fatEntry linkOf linkAt systemEntry wrongSystem wrongHidden wrongUser systemRow hiddenRow userRow directoryRows kind flag
-    firstBlock nameOf size headerOffset isUsed isData isGame entryAt wrongKind wrongFlag wrongFirst wrongSize wrongOffset wrongEntry entryRow
+    rightFields fieldsRow fatEntry linkOf linkAt systemEntry wrongSystem wrongHidden wrongUser systemRow hiddenRow userRow directoryRows kind
+    firstBlock nameOf size headerOffset isUsed isData isGame entryAt wrongKind wrongFirst wrongSize wrongOffset wrongEntry entryRow
     isNamed nameTaken nameRow chainStep chain chainOf badChain chainRow fileOf filesBefore sharesBlock sharingRow breaksGameRule gameRow
 open-computed = record { sizes = refl; whole = refl; table-rows = refl; directory-rows = refl }
 
@@ -199,7 +197,7 @@ open-are :
     (writeRows (table openUsers) (directory openEntries) (fileOfSize 0x43 2) 0 ≡ done)
     × (take 2 (freeBlocks (table openUsers)) ≡ 199 ∷ 197 ∷ [])
     × (lowestUnused (directory openEntries) ≡ some 0)
-unfolding table directory openEntries openUsers entryBytes unusedEntry systemTable word wordBytes fatEntry linkOf linkAt kind nameOf isUsed wrongFlag
+unfolding table directory openEntries openUsers entryBytes unusedEntry systemTable word wordBytes fatEntry linkOf linkAt kind nameOf isUsed
     entryAt isNamed entryNamed freeBlocks lowestUnused badLengths dataRows takenRow roomRow writeRows deleteRows fileOfSize
 open-are = (refl, refl, refl)
 

@@ -16,7 +16,7 @@ use Rattle.words.proofs.JoinLaws.{all-has}
 use Rattle.card_model.specs.Layout.{cardLength, blockAt, fatPlace, tableOf}
 use Rattle.card_model.specs.Table.{fatEntry, linkOf, linkAt}
 use Rattle.card_model.specs.Entries.{kind, flag, firstBlock, nameOf, timeOf, size, headerOffset, isData, wrongEntry}
-use Rattle.card_model.specs.Theorems.{WrongFields, wrong-type, wrong-flag, wrong-first, no-block, too-many, wrong-offset}
+use Rattle.card_model.specs.Theorems.{WrongFields, wrong-type, wrong-first, no-block, too-many, wrong-offset}
 use Rattle.card_model.proofs.ChainLaws.{Links, ends, goes}
 use Rattle.card_model.proofs.TableLaws.{next-of}
 use Rattle.card_model.proofs.TestLaws.{entry-tells}
@@ -97,14 +97,13 @@ module _ (k : ℕ) (f : NewFile) (offset first : ℕ) (named : length (f .name) 
   new-reserved = sym (drop-drop 4 24 entry) ∙ ap (drop 4) from-size
 
 -- an entry of right fields
-pub right-fields : (entry : List ℕ) → (kind entry ≡ 0x33) ⊎ (kind entry ≡ 0xCC) → (flag entry ≡ 0x00) ⊎ (flag entry ≡ 0xFF) → firstBlock entry < 200
+pub right-fields : (entry : List ℕ) → (kind entry ≡ 0x33) ⊎ (kind entry ≡ 0xCC) → firstBlock entry < 200
     → 1 ≤ size entry → size entry ≤ 200 → (kind entry ≡ 0x33 → headerOffset entry < size entry) → wrongEntry entry ≡ false
 unfolding isData
-right-fields entry k g b l m o = go (wrongEntry entry) refl
+right-fields entry k b l m o = go (wrongEntry entry) refl
   where
     wrong : WrongFields entry → ⊥
     wrong (wrong-type a c) = ⊎-elim a c k
-    wrong (wrong-flag a c) = ⊎-elim a c g
     wrong (wrong-first h) = omega arith
     wrong (no-block h) = omega arith
     wrong (too-many h) = omega arith
@@ -202,10 +201,10 @@ pub record HoldsBytes (blocks bytes : List ℕ) : Type 0 where
   pub apart : Distinct blocks
   pub wide : length bytes ≡ length blocks * 512
 
-holds-part : (b : ℕ) (blocks bytes : List ℕ) → HoldsBytes (b ∷ blocks) bytes → length (take 512 bytes) ≡ 512
+pub holds-part : (b : ℕ) (blocks bytes : List ℕ) → HoldsBytes (b ∷ blocks) bytes → length (take 512 bytes) ≡ 512
 holds-part b blocks bytes h = length-take-le 512 bytes (omega (arith, h .wide))
 
-holds-rest : (b : ℕ) (blocks bytes : List ℕ) → HoldsBytes (b ∷ blocks) bytes → HoldsBytes blocks (drop 512 bytes)
+pub holds-rest : (b : ℕ) (blocks bytes : List ℕ) → HoldsBytes (b ∷ blocks) bytes → HoldsBytes blocks (drop 512 bytes)
 holds-rest b blocks bytes h = record { low = h .low .1; apart = h .apart .1; wide = length-drop 512 bytes ∙ omega (arith, h .wide) }
 
 pub blocks-named : (blocks card bytes : List ℕ) → length card ≡ cardLength → HoldsBytes blocks bytes → SameBut (inBlocks blocks) card (withBlocks card blocks bytes)

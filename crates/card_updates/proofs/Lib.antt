@@ -14,4 +14,9 @@ pub mod WriteLaws
 pub mod FirstWrongLaws
 pub mod RefusalLaws
 pub mod ReadLaws
+pub mod FieldLaws
+pub mod FlagByteLaws
+pub mod FlagLaws
+pub mod FlagLeftLaws
+pub mod FlagTheoremLaws
 pub mod TheoremLaws

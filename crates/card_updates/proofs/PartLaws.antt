@@ -141,6 +141,42 @@ module _ (named : ℕ → Bool) (card after : List ℕ) (same : SameBut named ca
   pub same-word : (a : ℕ) → ((k : ℕ) → a ≤ k → k < a + 2 → named k ≡ false) → word after a ≡ word card a
   same-word a h = word-part after a ∙ ap (λ (l : List ℕ). word l 0) (same-part a 2 h) ∙ sym (word-part card a)
 
+-- ---- a part put anew on two cards
+
+-- a byte of the part that was put
+pub put-byte : (card : List ℕ) (at : ℕ) (part : List ℕ) → at + length part ≤ length card → (j : ℕ) → j < length part
+    → getD (withPart card at part) (at + j) 0 ≡ getD part j 0
+put-byte card at part fits j h =
+    let after = withPart card at part in
+    sym (getD-take (length part) (drop at after) j 0 h ∙ getD-drop at after j 0) ∙ ap (λ (l : List ℕ). getD l j 0) (part-same card at part fits)
+
+module _ (named : ℕ → Bool) (card other : List ℕ) (same : SameBut named card other) (at : ℕ) (part otherPart : List ℕ)
+    (fits : at + length part ≤ length card) (long : length otherPart ≡ length part)
+    (alike : (j : ℕ) → named (at + j) ≡ false → getD otherPart j 0 ≡ getD part j 0) where
+  other-fits : at + length otherPart ≤ length other
+  other-fits = omega (arith, fits, long, same .same-length)
+
+  -- the cards stay equal but for the named bytes where the parts are
+  pub put-both : SameBut named (withPart card at part) (withPart other at otherPart)
+  put-both = record {
+    same-length = part-length other at otherPart other-fits ∙ same .same-length ∙ sym (part-length card at part fits);
+    same-byte = λ k n. byte k n (inPart at (length part) k) refl;
+  }
+    where
+      byte : (k : ℕ) → named k ≡ false → (t : Bool) → inPart at (length part) k ≡ t
+          → getD (withPart other at otherPart) k 0 ≡ getD (withPart card at part) k 0
+      byte k n false e =
+          let f : inPart at (length otherPart) k ≡ false = rw long e in
+          part-named other at otherPart other-fits .same-byte k f ∙ same .same-byte k n ∙ sym (part-named card at part fits .same-byte k e)
+      byte k n true e =
+          let w = in-part-tells at (length part) k e in
+          let j = k - at in
+          let d : k ≡ at + j = omega (arith, w .0) in
+          let h : j < length part = omega (arith, w .0, w .1) in
+          let g : j < length otherPart = omega (arith, h, long) in
+          ap (λ (x : ℕ). getD (withPart other at otherPart) x 0) d ∙ put-byte other at otherPart other-fits j g
+          ∙ alike j (ap named (sym d) ∙ n) ∙ sym (ap (λ (x : ℕ). getD (withPart card at part) x 0) d ∙ put-byte card at part fits j h)
+
 -- ---- what no element of a list passes
 
 pub none-in : (p : ℕ → Bool) (l : List ℕ) → ((x : ℕ) → has x l ≡ true → p x ≡ false) → anyOf p l ≡ false

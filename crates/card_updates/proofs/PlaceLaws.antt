@@ -143,13 +143,13 @@ unfolding wordBytes
 two-bytes e = refl
 
 module _ (card : List ℕ) (b e : ℕ) (long : length card ≡ cardLength) (h : b < 256) where
-  fits : fatPlace b + length (wordBytes e) ≤ length card
+  pub link-fits : fatPlace b + length (wordBytes e) ≤ length card
   unfolding cardLength
-  fits = omega (arith, fat-inside b h, two-bytes e)
+  link-fits = omega (arith, fat-inside b h, two-bytes e)
 
   pub link-named : SameBut (inPart (fatPlace b) 2) card (withLink card b e)
   unfolding withLink
-  link-named = subst (λ (n : ℕ). SameBut (inPart (fatPlace b) n) card (withPart card (fatPlace b) (wordBytes e))) (two-bytes e) (part-named card (fatPlace b) (wordBytes e) fits)
+  link-named = subst (λ (n : ℕ). SameBut (inPart (fatPlace b) n) card (withPart card (fatPlace b) (wordBytes e))) (two-bytes e) (part-named card (fatPlace b) (wordBytes e) link-fits)
 
   pub put-link : fatEntry (tableOf (withLink card b e)) b ≡ e
   unfolding withLink
@@ -157,7 +157,7 @@ module _ (card : List ℕ) (b e : ℕ) (long : length card ≡ cardLength) (h : 
       let after = withPart card (fatPlace b) (wordBytes e) in
       fat-is after b h ∙ word-part after (fatPlace b)
       ∙ ap (λ (n : ℕ). word (take n (drop (fatPlace b) after)) 0) (sym (two-bytes e))
-      ∙ ap (λ (l : List ℕ). word l 0) (part-same card (fatPlace b) (wordBytes e) fits) ∙ word-bytes e
+      ∙ ap (λ (l : List ℕ). word l 0) (part-same card (fatPlace b) (wordBytes e) link-fits) ∙ word-bytes e
 
   pub link-other : (c : ℕ) → c < 256 → c ≢ b → fatEntry (tableOf (withLink card b e)) c ≡ fatEntry (tableOf card) c
   link-other c l n =
@@ -190,7 +190,7 @@ module _ (card : List ℕ) (b e : ℕ) (long : length card ≡ cardLength) (h : 
       inside = ⊎-elim (λ x. inl (omega (arith, fat-inside b h))) (λ x. inr (omega (arith, fat-inside b h)))
 
 module _ (card : List ℕ) (i : ℕ) (part : List ℕ) (wide : length part ≡ 32) (long : length card ≡ cardLength) (h : i < 208) where
-  entry-fits : entryPlace i + length part ≤ length card
+  pub entry-fits : entryPlace i + length part ≤ length card
   unfolding cardLength
   entry-fits = omega (arith, entry-inside i h)
 
@@ -225,7 +225,7 @@ module _ (card : List ℕ) (i : ℕ) (part : List ℕ) (wide : length part ≡ 3
       (λ k l m. apart-out (entryPlace i) 32 (c * 512) 512 k (⊎-elim (λ x. inr (omega (arith, entry-inside i h))) (λ x. inl (omega (arith, entry-inside i h))) n) l m)
 
 module _ (card : List ℕ) (b : ℕ) (part : List ℕ) (wide : length part ≡ 512) (long : length card ≡ cardLength) (h : b < 200) where
-  block-fits : b * 512 + length part ≤ length card
+  pub block-fits : b * 512 + length part ≤ length card
   unfolding cardLength
   block-fits = omega arith
 

@@ -48,7 +48,6 @@ pub record Placing (card : List ℕ) (k : ℕ) (f : NewFile) (offset : ℕ) (blo
   pub holds : HoldsBytes blocks (f .content)
   pub free : (b : ℕ) → has b blocks ≡ true → linkAt (tableOf card) b ≡ Free
   pub right-kind : (k ≡ 0x33) ⊎ (k ≡ 0xCC)
-  pub right-flag : (f .flag ≡ 0x00) ⊎ (f .flag ≡ 0xFF)
   pub right-offset : k ≡ 0x33 → offset < length blocks
   pub new-name : (j : ℕ) → UsedEntry card j → nameOf (entryOn card j) ≢ f .name
   pub only-game : k ≡ 0xCC → (j : ℕ) → j < 208 → isGame (entryOn card j) ≡ false
@@ -154,7 +153,6 @@ module _ (card : List ℕ) (sound : SoundCard card) (k : ℕ) (f : NewFile) (off
   right : wrongEntry (entryOn after i) ≡ false
   right =
       right-fields (entryOn after i) (⊎-elim (λ t. inl (kind-is ∙ t)) (λ t. inr (kind-is ∙ t)) (p .right-kind))
-      (⊎-elim (λ t. inl (flagged ∙ t)) (λ t. inr (flagged ∙ t)) (p .right-flag))
       (omega (arith, first-is, all-at (λ b. b < 200) blocks 0 (p .holds .low) (p .not-empty) 0))
       (omega (arith, sized, size-is, p .not-empty)) (omega (arith, sized, size-is, p .at-most-200))
       (λ d. omega (arith, offset-is, sized, size-is, p .right-offset (sym kind-is ∙ d)))

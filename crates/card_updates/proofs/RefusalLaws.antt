@@ -12,7 +12,7 @@ use lib.ListN.{length}
 use borrow.Author.Tests.{eqb-true, eqb-false, ne-eqb, ltb-true, lt-ltb, leb-true, le-leb, not-true}
 use Rattle.words.specs.Lists.{has, isSome}
 use Rattle.words.specs.Search.{lowest}
-use Rattle.words.proofs.Bools.{and-true-left, and-true-right, or-true-either, or-false-left, or-false-right}
+use Rattle.words.proofs.Bools.{and-true-left, and-true-right, or-true-either}
 use Rattle.words.proofs.Distinct.{count-same}
 use Rattle.words.proofs.SearchLaws.{lowest-none}
 use Rattle.words.proofs.WordLaws.{eq-same, same-eq}
@@ -24,7 +24,7 @@ use Rattle.verdicts.proofs.RowLaws.{rows-joined}
 use Rattle.card_model.specs.declared.Link.the-variants.{Free, Damaged, Last, Next, Bad}
 use Rattle.card_model.specs.Layout.{tableOf, directoryOf}
 use Rattle.card_model.specs.Table.{fatEntry, linkOf, linkAt, isFree}
-use Rattle.card_model.specs.Entries.{nameOf, isUsed, wrongFlag, isNamed}
+use Rattle.card_model.specs.Entries.{nameOf, isUsed, isNamed}
 use Rattle.card_model.specs.Calls.{verdictOf, entryNamed}
 use Rattle.card_model.specs.Sound.{entryOn, UsedEntry}
 use Rattle.card_model.proofs.SoundLaws.{accepted-sound}
@@ -32,7 +32,7 @@ use Rattle.card_updates.specs.Delete.{deleteRows, deleteVerdict}
 use Rattle.card_updates.specs.Write.{NewFile, blocksOf, freeBlocks, badLengths, dataRows, takenRow, roomRow, writeRows, writeVerdict}
 use Rattle.card_updates.specs.Refusals.{ExactlyOn, freeEntries, WrongLengths, wrong-name, wrong-time, wrong-content, WrongFile, name-29, room-34}
 use Rattle.card_updates.specs.Refusals.{deleteOrder, WrongDelete, length-33, nothing-31}
-use Rattle.card_updates.specs.Refusals.{writeOrder, WrongWrite, lengths-33, blocks-33, flag-26, offset-26, in-file}
+use Rattle.card_updates.specs.Refusals.{writeOrder, WrongWrite, lengths-33, blocks-33, offset-26, in-file}
 use Rattle.card_updates.proofs.DeleteLaws.{none-named}
 use Rattle.card_updates.proofs.WriteLaws.{free-count}
 use Rattle.card_updates.proofs.FirstWrongLaws.{rowsIn, placeOf, Tells, Fires, rows-exactly, call-exactly, at-tells, over-tells, at-fires, over-fires, last-row}
@@ -80,18 +80,6 @@ lengths-wrong f (wrong-content h) =
             let r = eqb-true (length (f .content) % 512) 0 e in
             let b = eqb-false (blocksOf f) 0 g in
             absurd (h (blocksOf f) (omega arith) (omega arith))
-
--- ---- 26
-
-pub flag-tells : (f : NewFile) → wrongFlag (f .flag) ≡ true → (f .flag ≢ 0x00) × (f .flag ≢ 0xFF)
-unfolding wrongFlag
-flag-tells f e =
-    let n = not-true _ e in
-    (eqb-false _ _ (or-false-left (eqb (f .flag) 0x00) _ n), eqb-false _ _ (or-false-right (eqb (f .flag) 0x00) _ n))
-
-pub flag-wrong : (f : NewFile) → f .flag ≢ 0x00 → f .flag ≢ 0xFF → wrongFlag (f .flag) ≡ true
-unfolding wrongFlag
-flag-wrong f a b = rw (ne-eqb _ _ a, ne-eqb _ _ b)
 
 -- ---- 29, 31
 
@@ -222,14 +210,13 @@ module _ (card : List ℕ) (f : NewFile) (offset : ℕ) where
   writeRow : ℕ → Verdict
   writeRow n =
       cond (eqb n 33) (rowAt 33 Whole (badLengths f || ltb 200 (blocksOf f)))
-      (cond (eqb n 26) (rowAt 26 Whole (wrongFlag (f .flag) || leb (blocksOf f) offset))
+      (cond (eqb n 26) (rowAt 26 Whole (leb (blocksOf f) offset))
       (cond (eqb n 29) (takenRow (directoryOf card) (f .name)) (roomRow (tableOf card) f)))
 
   write-known : {n : ℕ} {p : Place} → WrongWrite card f offset n p → (has n writeOrder ≡ true) × (p ≡ placeOf n (placeNumber p))
   unfolding placeOf
   write-known (lengths-33 h) = (refl, refl)
   write-known (blocks-33 h) = (refl, refl)
-  write-known (flag-26 a b) = (refl, refl)
   write-known (offset-26 h) = (refl, refl)
   write-known (in-file w) = file-known card f writeOrder refl refl w
 
@@ -237,24 +224,19 @@ module _ (card : List ℕ) (f : NewFile) (offset : ℕ) where
   unfolding writeRow
   write-fires (lengths-33 h) = at-fires 33 (badLengths f || ltb 200 (blocksOf f)) (rw (lengths-wrong f h))
   write-fires (blocks-33 h) = at-fires 33 (badLengths f || ltb 200 (blocksOf f)) (rw (lt-ltb _ _ h) (or-true (badLengths f)))
-  write-fires (flag-26 a b) = at-fires 26 (wrongFlag (f .flag) || leb (blocksOf f) offset) (rw (flag-wrong f a b))
-  write-fires (offset-26 h) = at-fires 26 (wrongFlag (f .flag) || leb (blocksOf f) offset) (rw (le-leb _ _ h) (or-true (wrongFlag (f .flag))))
+  write-fires (offset-26 h) = at-fires 26 (leb (blocksOf f) offset) (le-leb _ _ h)
   write-fires (in-file w) = file-fires card f writeRow refl refl w
 
   write-rows : writeRows (tableOf card) (directoryOf card) f offset ≡ rowsIn writeRow writeOrder
   unfolding writeRows dataRows roomRow writeRow
   write-rows =
-      rows-joined (rowAt 33 Whole (badLengths f || ltb 200 (blocksOf f))) (rowAt 26 Whole (wrongFlag (f .flag) || leb (blocksOf f) offset)) _
+      rows-joined (rowAt 33 Whole (badLengths f || ltb 200 (blocksOf f))) (rowAt 26 Whole (leb (blocksOf f) offset)) _
       ∙ ap (λ (v : Verdict). unlessRefused (rowAt 33 Whole (badLengths f || ltb 200 (blocksOf f)))
-      (unlessRefused (rowAt 26 Whole (wrongFlag (f .flag) || leb (blocksOf f) offset)) (unlessRefused (takenRow (directoryOf card) (f .name)) v)))
+      (unlessRefused (rowAt 26 Whole (leb (blocksOf f) offset)) (unlessRefused (takenRow (directoryOf card) (f .name)) v)))
       (sym (last-row 34 Whole (lacks card f) refl))
 
   bad-lengths : (badLengths f || ltb 200 (blocksOf f)) ≡ true → Fault 33 Whole
   bad-lengths t = ⊎-elim (λ a. lengths-33 (lengths-tell f a)) (λ a. blocks-33 (ltb-true _ _ a)) (or-true-either (badLengths f) _ t)
-
-  bad-fields : (wrongFlag (f .flag) || leb (blocksOf f) offset) ≡ true → Fault 26 Whole
-  bad-fields t =
-      ⊎-elim (λ a. let w = flag-tells f a in flag-26 (w .0) (w .1)) (λ a. offset-26 (leb-true _ _ a)) (or-true-either (wrongFlag (f .flag)) _ t)
 
   pub write-exactly : ExactlyOn card writeOrder (WrongWrite card f offset) (writeVerdict card f offset)
   unfolding writeVerdict writeRow
@@ -263,7 +245,7 @@ module _ (card : List ℕ) (f : NewFile) (offset : ℕ) where
       (rows-exactly Fault writeRow (λ n p w. write-fires w) writeOrder (λ n p w. write-known w) refl (
         at-tells Fault 33 _ bad-lengths,
         (
-          at-tells Fault 26 _ bad-fields,
+          at-tells Fault 26 _ (λ t. offset-26 (leb-true _ _ t)),
           (tells-29 card f Fault (λ n p w. in-file w), (tells-34 card f Fault (λ n p w. in-file w), tt)),
         ),
       )))
@@ -313,4 +295,4 @@ write-zero card f offset =
     t33 = badLengths f || ltb 200 (blocksOf f)
 
     t26 : Bool
-    t26 = wrongFlag (f .flag) || leb (blocksOf f) offset
+    t26 = leb (blocksOf f) offset

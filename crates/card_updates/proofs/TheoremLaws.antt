@@ -1,4 +1,5 @@
 -- The theorems of a write and of a delete, together. Assumes nothing.
+use mathlib.Core.Path.{refl}
 use Rattle.card_updates.specs.Theorems.{UpdateTheorems}
 use Rattle.card_updates.proofs.PartLaws.{part-length, part-same, part-other}
 use Rattle.card_updates.proofs.PlaceLaws.{blocks-apart, links-apart, entries-apart}
@@ -38,6 +39,7 @@ update-theorems = record {
   blocks-apart = blocks-apart;
   links-apart = links-apart;
   entries-apart = entries-apart;
+  given-as = λ flag name time content. (refl, refl, refl, refl);
   delete-exactly = refusals.delete-exactly;
   write-exactly = refusals.write-exactly;
   delete-refused = delete.delete-refused;

@@ -4,14 +4,14 @@ use mathlib.Core.Path.{_≡_, refl, sym, ap, subst, _∙_}
 use mathlib.Core.Bool.{Bool, true, false, not, _||_, true≢false, false≢true}
 use mathlib.Core.List.{List, [], _∷_, _++_}
 use mathlib.Core.Option.{Option, none, some}
-use mathlib.Core.Logic.{_≢_, _⊎_, inl, inr, ⊎-elim}
+use mathlib.Core.Logic.{_≢_, inl}
 use native.Mathlib.Omega.{arith}
 use lib.Dec.{eqb, ltb}
 use lib.ListN.{length, getD, take, drop, take-append-drop}
 use lib.Seq.{length-take-le, getD-take}
 use borrow.Author.Tests.{eqb-true, eqb-false, ltb-false, leb-false, ne-eqb, not-false, not-true}
 use Rattle.words.specs.Lists.{anyOf, has, Distinct, isSome}
-use Rattle.words.proofs.Bools.{or-false-left, or-false-right, or-true-either}
+use Rattle.words.proofs.Bools.{or-false-left, or-false-right}
 use Rattle.words.proofs.ListLaws.{All, all-keep, all-mono, keep-passes}
 use Rattle.words.proofs.Distinct.{keep-distinct}
 use Rattle.words.proofs.JoinLaws.{all-has, any-append}
@@ -24,7 +24,7 @@ use Rattle.card_model.specs.declared.Link.{Link}
 use Rattle.card_model.specs.declared.Link.the-variants.{Free, Damaged, Last, Next, Bad}
 use Rattle.card_model.specs.Layout.{tableOf, directoryOf}
 use Rattle.card_model.specs.Table.{fatEntry, linkOf, linkAt, isFree, countBlocks}
-use Rattle.card_model.specs.Entries.{flag, nameOf, isUsed, wrongFlag, isNamed}
+use Rattle.card_model.specs.Entries.{nameOf, isUsed, isNamed}
 use Rattle.card_model.specs.Calls.{verdictOf, entryNamed}
 use Rattle.card_model.specs.Sound.{SoundCard, entryOn, UsedEntry}
 use Rattle.card_model.proofs.TableLaws.{free-is}
@@ -35,7 +35,7 @@ use Rattle.card_updates.specs.Theorems.{IsLowestUnused, HighestFree, Wri
 use Rattle.card_updates.proofs.CountLaws.{count-down, has-kept}
 use Rattle.card_updates.proofs.SortLaws.{Sorted, sorted-keep, sorted-across, sorted-at, numbers-down, down-sorted, down-has}
 use Rattle.card_updates.proofs.RoomLaws.{never-full}
-use Rattle.card_updates.proofs.ReplaceLaws.{new-file, same-orphans}
+use Rattle.card_updates.proofs.ReplaceLaws.{same-orphans}
 use Rattle.card_updates.proofs.FileLaws.{new-name}
 use Rattle.card_updates.proofs.FileLaws.{HoldsBytes}
 use Rattle.card_updates.proofs.PlacedLaws.{Placing, placed-only, placed-replaced, placed-sound, placed-file, placed-others, placed-kept}
@@ -176,17 +176,11 @@ right-lengths f e =
       not-empty = eqb-false _ _ (or-false-right w _ b);
     }
 
-pub right-flag : (f : NewFile) → wrongFlag (f .flag) ≡ false → (f .flag ≡ 0x00) ⊎ (f .flag ≡ 0xFF)
-unfolding wrongFlag
-right-flag f e =
-    ⊎-elim (λ t. inl (eqb-true _ _ t)) (λ t. inr (eqb-true _ _ t)) (or-true-either (eqb (f .flag) 0x00) (eqb (f .flag) 0xFF) (not-false _ e))
-
 -- what no row of a write refuses
 pub record PassedRows (card : List ℕ) (f : NewFile) (offset : ℕ) : Type 0 where
   pub is-sound : SoundCard card
   pub lengths : RightLengths f
   pub few : blocksOf f ≤ 200
-  pub flagged : (f .flag ≡ 0x00) ⊎ (f .flag ≡ 0xFF)
   pub offset-below : offset < blocksOf f
   pub unnamed : entryNamed (directoryOf card) (f .name) ≡ none
   pub room : blocksOf f ≤ length (freeBlocks (tableOf card))
@@ -200,13 +194,11 @@ passed-rows card f offset v =
     let v33 = unless-accepts (rowAt 33 Whole (badLengths f || ltb 200 (blocksOf f))) _ (given .0) in
     let v29 = unless-accepts (takenRow (directoryOf card) (f .name)) _ (given .1) in
     let t33 = at-accepts _ _ _ refl (v33 .0) in
-    let t26 = at-accepts _ _ _ refl (v33 .1) in
     record {
       is-sound = accepted-sound card (eqb-true _ _ (a .0));
       lengths = right-lengths f (or-false-left (badLengths f) _ t33);
       few = ltb-false 200 (blocksOf f) (or-false-right (badLengths f) _ t33);
-      flagged = right-flag f (or-false-left (wrongFlag (f .flag)) _ t26);
-      offset-below = leb-false (blocksOf f) offset (or-false-right (wrongFlag (f .flag)) _ t26);
+      offset-below = leb-false (blocksOf f) offset (at-accepts _ _ _ refl (v33 .1));
       unnamed = over-none 29 Entry _ refl (v29 .0);
       room = ltb-false (length (freeBlocks table)) (blocksOf f) (at-accepts _ _ _ refl (v29 .1));
     }
@@ -246,14 +238,13 @@ module _ (card : List ℕ) (f : NewFile) (offset : ℕ) (p : PassedRows card f o
       holds = taken-holds;
       free = were-free;
       right-kind = inl refl;
-      right-flag = p .flagged;
       right-offset = λ t. omega (arith, many, p .offset-below);
       new-name = not-named card (f .name) (p .unnamed);
       only-game = λ t. absurd (omega (arith, t));
       game-place = λ t. absurd (omega (arith, t));
     }
 
-    leaves : writeVerdict card f offset ≡ done → WriteLeaves card (written card f offset) f offset i
+    pub leaves : writeVerdict card f offset ≡ done → WriteLeaves card (written card f offset) f offset i
     unfolding written takenBlocks
     leaves v = rw (v, free) (record {
       sound = placed-sound card (p .is-sound) 0x33 f offset blocks i is-placing;

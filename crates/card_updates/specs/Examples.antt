@@ -28,6 +28,6 @@ openUsers = set (set (replicate 200 0xFFFC) 3 198) 198 0xFFFA
 unfoldable pub openCard : List ℕ
 openCard = cardOf openEntries openUsers
 
--- A file of this letter as its name and this many blocks.
+-- A file of this letter as its name and this many blocks, with a flag that is neither 00 nor FF.
 unfoldable pub fileOfSize : ℕ → ℕ → NewFile
-fileOfSize letter blocks = record { flag = 0x00; name = replicate 12 letter; time = replicate 8 0x20; content = replicate (512 * blocks) 0x11 }
+fileOfSize letter blocks = record { flag = 0xFE; name = replicate 12 letter; time = replicate 8 0x20; content = replicate (512 * blocks) 0x11 }

@@ -4,3 +4,4 @@ pub mod Write
 pub mod Refusals
 pub mod Examples
 pub mod Theorems
+pub mod Flags

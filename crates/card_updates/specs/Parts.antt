@@ -19,7 +19,7 @@ withLink card b e = withPart card (fatPlace b) (wordBytes e)
 abbrev pub Within : ℕ → ℕ → ℕ → Type 0
 Within at n k = (at ≤ k) × (k < at + n)
 
--- of block b, of the table entry of block b, or of directory entry i.
+-- of block b, of the table entry of block b, of directory entry i, or its copy flag.
 abbrev pub InBlock : ℕ → ℕ → Type 0
 InBlock b k = Within (blockPlace b) 512 k
 
@@ -28,6 +28,9 @@ InLink b k = Within (fatPlace b) 2 k
 
 abbrev pub InEntry : ℕ → ℕ → Type 0
 InEntry i k = Within (entryPlace i) 32 k
+
+abbrev pub InFlag : ℕ → ℕ → Type 0
+InFlag i k = Within (entryPlace i + 1) 1 k
 
 -- "no byte changes that isn't named": the cards are equal but for the bytes at these places.
 pub record OnlyAt (place : ℕ → Type 0) (card after : List ℕ) : Type 0 where

@@ -72,7 +72,7 @@ pub data WrongDelete (card name : List ℕ) : ℕ → Place → Type 0 where
   length-33 : length name ≢ 12 → WrongDelete card name 33 Whole
   nothing-31 : ((i : ℕ) → UsedEntry card i → nameOf (entryOn card i) ≢ name) → WrongDelete card name 31 Whole
 
--- "33 for a bad length .., 26 for a bad flag or offset, 29 for a name in use, 34"
+-- "33 for a bad length .., 26 for a bad flag or offset, 29 for a name in use, 34"; request 3 drops the flag
 abbrev pub writeOrder : List ℕ
 writeOrder = 33 ∷ 26 ∷ 29 ∷ 34 ∷ []
 
@@ -80,6 +80,5 @@ pub data WrongWrite (card : List ℕ) (f : NewFile) (offset : ℕ) : ℕ → Pla
   lengths-33 : WrongLengths f → WrongWrite card f offset 33 Whole
   -- "1 to 200 blocks"
   blocks-33 : 200 < blocksOf f → WrongWrite card f offset 33 Whole
-  flag-26 : f .flag ≢ 0x00 → f .flag ≢ 0xFF → WrongWrite card f offset 26 Whole
   offset-26 : blocksOf f ≤ offset → WrongWrite card f offset 26 Whole
   in-file : {n : ℕ} {p : Place} → WrongFile card f n p → WrongWrite card f offset n p

@@ -159,7 +159,6 @@ pub record ScatteredRefusals : Type 0 where
   pub taken-name-before-room : writeVerdict scatteredCard (fileOfSize 0x42 196) 0 ≡ refusedAt 29 (Entry 1)
   pub offset-before-taken-name : writeVerdict scatteredCard (fileOfSize 0x42 2) 2 ≡ refusedAt 26 Whole
   pub length-before-offset : writeVerdict scatteredCard (fileOfSize 0x42 201) 201 ≡ refusedAt 33 Whole
-  pub flag-before-taken-name : writeVerdict scatteredCard (givenFile 0x01 (replicate 12 0x42) (replicate 8 0x20) (replicate 512 0x11)) 0 ≡ refusedAt 26 Whole
   pub short-name : writeVerdict scatteredCard (givenFile 0x00 (replicate 11 0x43) (replicate 8 0x20) (replicate 512 0x11)) 0 ≡ refusedAt 33 Whole
   pub short-time : writeVerdict scatteredCard (givenFile 0x00 (replicate 12 0x43) (replicate 7 0x20) (replicate 512 0x11)) 0 ≡ refusedAt 33 Whole
   pub part-of-block : writeVerdict scatteredCard (givenFile 0x00 (replicate 12 0x43) (replicate 8 0x20) (replicate 513 0x11)) 0 ≡ refusedAt 33 Whole
@@ -177,6 +176,10 @@ pub record UpdateTheorems : Type 0 where
   pub blocks-apart : (b c k : ℕ) → InBlock b k → InBlock c k → b ≡ c
   pub links-apart : (b c k : ℕ) → InLink b k → InLink c k → b ≡ c
   pub entries-apart : (i j k : ℕ) → i < 208 → j < 208 → InEntry i k → InEntry j k → i ≡ j
+  -- a file is what the call was given
+  pub given-as : (flag : ℕ) (name time content : List ℕ)
+      → (givenFile flag name time content .flag ≡ flag) × (givenFile flag name time content .name ≡ name)
+      × (givenFile flag name time content .time ≡ time) × (givenFile flag name time content .content ≡ content)
   -- "given exactly when": each call is done, or refused with the first thing that is wrong
   pub delete-exactly : (card name : List ℕ) → ExactlyOn card deleteOrder (WrongDelete card name) (deleteVerdict card name)
   pub write-exactly : (card : List ℕ) (f : NewFile) (offset : ℕ) → ExactlyOn card writeOrder (WrongWrite card f offset) (writeVerdict card f offset)
@@ -225,7 +228,7 @@ pub record UpdateTheorems : Type 0 where
   pub short-unused : lowestUnused ((0x33 ∷ []) ∷ (0x00 ∷ 0x41 ∷ []) ∷ (0xCC ∷ []) ∷ []) ≡ some 1
   pub short-entry :
       newEntry 0x33 (fileOfSize 0x43 2) 1 199
-      ≡ 0x33 ∷ 0x00 ∷ 199 ∷ 0 ∷ replicate 12 0x43 ++ (replicate 8 0x20 ++ (2 ∷ 0 ∷ 1 ∷ 0 ∷ 0 ∷ 0 ∷ 0 ∷ 0 ∷ []))
+      ≡ 0x33 ∷ 0xFE ∷ 199 ∷ 0 ∷ replicate 12 0x43 ++ (replicate 8 0x20 ++ (2 ∷ 0 ∷ 1 ∷ 0 ∷ 0 ∷ 0 ∷ 0 ∷ 0 ∷ []))
   pub short-blocks : withBlocks [] (0 ∷ 7 ∷ []) (8 ∷ 9 ∷ []) ≡ 8 ∷ 9 ∷ 7 ∷ 0 ∷ 0xFA ∷ 0xFF ∷ []
   pub short-freed : freed (1 ∷ 2 ∷ []) (0 ∷ []) ≡ 1 ∷ 2 ∷ 0xFC ∷ 0xFF ∷ []
   -- the bytes that a write of block 198 at entry 2 may change, and those that a delete there may

@@ -15,7 +15,7 @@ use Rattle.verdicts.specs.declared.Verdict.{Verdict}
 use Rattle.verdicts.specs.Rows.{accepted, rowAt, rowOver, unlessRefused}
 use Rattle.card_model.specs.Layout.{blockPlace, tableOf, entryPlace, directoryOf}
 use Rattle.card_model.specs.Table.{linkAt, isFree}
-use Rattle.card_model.specs.Entries.{isUsed, wrongFlag, entryAt}
+use Rattle.card_model.specs.Entries.{isUsed, entryAt}
 use Rattle.card_model.specs.Calls.{verdictOf, entryNamed}
 use Rattle.card_updates.specs.Parts.{withPart, withLink}
 
@@ -59,11 +59,12 @@ badLengths f =
     || (not (eqb (length (f .content) % 512) 0)
     || eqb (blocksOf f) 0))
 
--- "33 for a bad length ..", the data being "1 to 200 blocks"; "26 for a bad flag or offset": the rows that look at the file alone.
+-- "33 for a bad length ..", the data being "1 to 200 blocks"; "26 for a bad flag or offset", of which request 3 drops the flag: the rows
+-- that look at the file alone.
 unfoldable pub dataRows : NewFile → ℕ → Verdict
 dataRows f offset =
     unlessRefused (rowAt 33 Whole (badLengths f || ltb 200 (blocksOf f)))
-    (rowAt 26 Whole (wrongFlag (f .flag) || leb (blocksOf f) offset))
+    (rowAt 26 Whole (leb (blocksOf f) offset))
 
 -- "29 for a name in use"
 unfoldable pub takenRow : List (List ℕ) → List ℕ → Verdict

@@ -10,16 +10,18 @@ use Rattle.verdicts.specs.declared.Place.{Place}
 use Rattle.verdicts.specs.declared.Place.the-variants.{Whole, Block, Entry}
 use Rattle.verdicts.specs.declared.Verdict.{Verdict}
 use Rattle.verdicts.specs.Rows.{unlessRefused}
+use Rattle.card_model.specs.declared.CopyProtection.{CopyProtection}
+use Rattle.card_model.specs.declared.CopyProtection.the-variants.{Protected, Copyable}
 use Rattle.card_model.specs.declared.Link.{Link}
 use Rattle.card_model.specs.declared.Link.the-variants.{Free, Damaged, Last, Next, Bad}
 use Rattle.card_model.specs.declared.Listing.{Listing}
 use Rattle.card_model.specs.Layout.{cardLength, blockAt, fatPlace, tableOf, entryBlock, entryByte, entryPlace, directoryOf}
 use Rattle.card_model.specs.Table.{magicRow, fieldsRow, linkOf}
-use Rattle.card_model.specs.Entries.{entryRow}
+use Rattle.card_model.specs.Entries.{protectionOf, wrongEntry, entryRow}
 use Rattle.card_model.specs.Files.{chain, orEmpty, orphans}
 use Rattle.card_model.specs.Calls.{tableRows, directoryRows, checkOf, firstUsed, listedFrom, listOf, readRows, readVerdict, readBuffer}
 use Rattle.card_model.specs.Examples.{rootBlock, systemTable, unusedEntry, entryBytes}
-use Rattle.samples.specs.Sample.{Sample, sampleOf}
+use Rattle.samples.specs.Sample.{Sample, sampleOf, bit}
 
 -- ---- answers as numbers
 
@@ -32,10 +34,15 @@ placeNumbers (Entry i) = 2 ∷ i ∷ []
 abbrev pub verdictNumbers : Verdict → List ℕ
 verdictNumbers v = v .number ∷ placeNumbers (v .place)
 
+-- 1 protected, 0 copyable.
+abbrev pub protectionNumber : CopyProtection → ℕ
+protectionNumber Protected = 1
+protectionNumber Copyable = 0
+
 abbrev pub listingNumbers : Listing → List ℕ
 listingNumbers l =
     verdictNumbers (l .verdict)
-    ++ (l .entry ∷ l .kind ∷ l .flag ∷ l .first ∷ l .size ∷ l .offset ∷ l .name ++ l .time)
+    ++ (l .entry ∷ l .kind ∷ l .flag ∷ protectionNumber (l .protection) ∷ l .first ∷ l .size ∷ l .offset ∷ l .name ++ l .time)
 
 abbrev pub linkNumbers : Link → List ℕ
 linkNumbers Free = 0 ∷ 0 ∷ []
@@ -90,6 +97,10 @@ fileA = dataFile 199 0x41
 
 abbrev pub sizedA : ℕ → List ℕ
 sizedA size = entryBytes 0x33 0x00 199 0x41 size 0
+
+-- File A with a type that is none.
+abbrev pub otherKind : List ℕ
+otherKind = set fileA 0 0x01
 
 abbrev pub fileB : List ℕ
 fileB = dataFile 198 0x42
@@ -200,15 +211,15 @@ tableSamples =
     ∷ sampleOf (ofTable (set (set emptyTable 0 0xFFFD) 240 200)) (24 ∷ 1 ∷ 240 ∷ [])
     ∷ []
 
--- 26: an entry's type, flag, first block, size and header offset
+-- 26: an entry's type, first block, size and header offset, and its copy flag, which is not tested
 unfoldable pub entrySamples : List Sample
 entrySamples =
     sampleOf (ofEntry (entryBytes 0x33 0x00 199 0x42 2 1)) (0 ∷ 0 ∷ 0 ∷ [])
     ∷ sampleOf (ofEntry (entryBytes 0x32 0x00 199 0x42 2 1)) (26 ∷ 2 ∷ 1 ∷ [])
     ∷ sampleOf (ofEntry (entryBytes 0xCD 0x00 199 0x42 2 1)) (26 ∷ 2 ∷ 1 ∷ [])
     ∷ sampleOf (ofEntry (entryBytes 0x33 0xFF 199 0x42 2 1)) (0 ∷ 0 ∷ 0 ∷ [])
-    ∷ sampleOf (ofEntry (entryBytes 0x33 0x01 199 0x42 2 1)) (26 ∷ 2 ∷ 1 ∷ [])
-    ∷ sampleOf (ofEntry (entryBytes 0x33 0xFE 199 0x42 2 1)) (26 ∷ 2 ∷ 1 ∷ [])
+    ∷ sampleOf (ofEntry (entryBytes 0x33 0x01 199 0x42 2 1)) (0 ∷ 0 ∷ 0 ∷ [])
+    ∷ sampleOf (ofEntry (entryBytes 0x33 0xFE 199 0x42 2 1)) (0 ∷ 0 ∷ 0 ∷ [])
     ∷ sampleOf (ofEntry (entryBytes 0x33 0x00 200 0x42 2 1)) (26 ∷ 2 ∷ 1 ∷ [])
     ∷ sampleOf (ofEntry (entryBytes 0x33 0x00 256 0x42 2 1)) (26 ∷ 2 ∷ 1 ∷ [])
     ∷ sampleOf (ofEntry (entryBytes 0xCC 0x00 199 0x42 0 1)) (26 ∷ 2 ∷ 1 ∷ [])
@@ -223,7 +234,11 @@ entrySamples =
     ∷ sampleOf (ofEntry (entryBytes 0x00 0x01 999 0x42 999 999)) (0 ∷ 0 ∷ 0 ∷ [])
     -- the lowest first, and the last entry of the directory
     ∷ sampleOf (verdictNumbers (entryRow (fileA ∷ set fileB 0 1 ∷ set fileC 0 2 ∷ []))) (26 ∷ 2 ∷ 1 ∷ [])
-    ∷ sampleOf (verdictNumbers (entryRow (replicate 207 unusedEntry ++ set fileA 1 1 ∷ []))) (26 ∷ 2 ∷ 207 ∷ [])
+    ∷ sampleOf (verdictNumbers (entryRow (replicate 207 unusedEntry ++ set fileA 0 1 ∷ []))) (26 ∷ 2 ∷ 207 ∷ [])
+    -- each value of the flag: no entry is bad for it, and FF alone is protected
+    ∷ sampleOf (map (λ byte. bit (wrongEntry (set fileA 1 byte))) (numbersFrom 0 256)) (replicate 256 0)
+    ∷ sampleOf (map (λ byte. bit (wrongEntry (set otherKind 1 byte))) (numbersFrom 0 256)) (replicate 256 1)
+    ∷ sampleOf (map (λ byte. protectionNumber (protectionOf (set fileA 1 byte))) (numbersFrom 0 256)) (replicate 255 0 ++ 1 ∷ [])
     ∷ []
 
 -- 27
@@ -292,17 +307,19 @@ orphanTable =
 unfoldable pub orphanSamples : List Sample
 orphanSamples = sampleOf (map (orphans orphanTable) ((fileA ∷ fileB ∷ []) ∷ (unusedA ∷ fileB ∷ []) ∷ [])) (4 ∷ 5 ∷ []) ∷ []
 
--- The listing from 0, 1, 2 and 3; from further on; of the last entry.
+-- The listing from 0, 1, 2 and 3; from further on, where nothing is listed; of the last entry; of a flag that is neither 00 nor FF.
 unfoldable pub listSamples : List Sample
 listSamples =
-    sampleOf (ofList mixedEntries 0) (0 ∷ 0 ∷ 0 ∷ 1 ∷ 51 ∷ 255 ∷ 770 ∷ 6424 ∷ 6938 ∷ numbersFrom 4 20)
-    ∷ sampleOf (ofList mixedEntries 1) (0 ∷ 0 ∷ 0 ∷ 1 ∷ 51 ∷ 255 ∷ 770 ∷ 6424 ∷ 6938 ∷ numbersFrom 4 20)
-    ∷ sampleOf (ofList mixedEntries 2) (0 ∷ 0 ∷ 0 ∷ 3 ∷ 51 ∷ 0 ∷ 199 ∷ 1 ∷ 0 ∷ replicate 12 65 ++ replicate 8 32)
-    ∷ sampleOf (ofList mixedEntries 3) (0 ∷ 0 ∷ 0 ∷ 3 ∷ 51 ∷ 0 ∷ 199 ∷ 1 ∷ 0 ∷ replicate 12 65 ++ replicate 8 32)
+    sampleOf (ofList mixedEntries 0) (0 ∷ 0 ∷ 0 ∷ 1 ∷ 51 ∷ 255 ∷ 1 ∷ 770 ∷ 6424 ∷ 6938 ∷ numbersFrom 4 20)
+    ∷ sampleOf (ofList mixedEntries 1) (0 ∷ 0 ∷ 0 ∷ 1 ∷ 51 ∷ 255 ∷ 1 ∷ 770 ∷ 6424 ∷ 6938 ∷ numbersFrom 4 20)
+    ∷ sampleOf (ofList mixedEntries 2) (0 ∷ 0 ∷ 0 ∷ 3 ∷ 51 ∷ 0 ∷ 0 ∷ 199 ∷ 1 ∷ 0 ∷ replicate 12 65 ++ replicate 8 32)
+    ∷ sampleOf (ofList mixedEntries 3) (0 ∷ 0 ∷ 0 ∷ 3 ∷ 51 ∷ 0 ∷ 0 ∷ 199 ∷ 1 ∷ 0 ∷ replicate 12 65 ++ replicate 8 32)
     ∷ sampleOf (concat (map (ofListVerdict mixedEntries) (4 ∷ 207 ∷ 208 ∷ 1000 ∷ [])))
     (31 ∷ 0 ∷ 0 ∷ 31 ∷ 0 ∷ 0 ∷ 31 ∷ 0 ∷ 0 ∷ 31 ∷ 0 ∷ 0 ∷ [])
+    ∷ sampleOf (ofList mixedEntries 4) (31 ∷ replicate 29 0)
     ∷ sampleOf (ofList (replicate 207 unusedEntry ++ fileA ∷ []) 207)
-    (0 ∷ 0 ∷ 0 ∷ 207 ∷ 51 ∷ 0 ∷ 199 ∷ 1 ∷ 0 ∷ replicate 12 65 ++ replicate 8 32)
+    (0 ∷ 0 ∷ 0 ∷ 207 ∷ 51 ∷ 0 ∷ 0 ∷ 199 ∷ 1 ∷ 0 ∷ replicate 12 65 ++ replicate 8 32)
+    ∷ sampleOf (ofList (set fileA 1 0xFE ∷ []) 0) (0 ∷ 0 ∷ 0 ∷ 0 ∷ 51 ∷ 254 ∷ 0 ∷ 199 ∷ 1 ∷ 0 ∷ replicate 12 65 ++ replicate 8 32)
     ∷ []
 
 -- 31 to 33 of a read: the file's last block, and past it; no such name; lengths one off; 33 before 31 before 32.
@@ -323,7 +340,7 @@ readSamples =
 unfoldable pub lengthSamples : List Sample
 lengthSamples =
     sampleOf (verdictNumbers ((checkOf []) .verdict) ++ (checkOf []) .orphans ∷ []) (20 ∷ 0 ∷ 0 ∷ 0 ∷ [])
-    ∷ sampleOf (verdictNumbers ((listOf [] 0) .verdict)) (20 ∷ 0 ∷ 0 ∷ [])
+    ∷ sampleOf (listingNumbers (listOf [] 0)) (20 ∷ replicate 29 0)
     ∷ sampleOf (verdictNumbers (readVerdict [] [] 0 (7 ∷ [])) ++ readBuffer [] [] 0 (7 ∷ [])) (20 ∷ 0 ∷ 0 ∷ 7 ∷ [])
     ∷ []
 

@@ -16,8 +16,8 @@ use Rattle.flash_model.specs.Partition as flash
 use Rattle.card_model.specs.Layout.{cardLength, blockAt, rootOf, fatPlace, tableOf, entryBlock, entryByte, entryPlace, directoryOf}
 use Rattle.card_model.specs.Table.{magicRow, rightFields, fieldsRow, fatEntry, linkOf, linkAt, systemEntry, wrongSystem}
 use Rattle.card_model.specs.Table.{wrongHidden, wrongUser, systemRow, hiddenRow, userRow}
-use Rattle.card_model.specs.Entries.{kind, flag, firstBlock, nameOf, timeOf, size, headerOffset, isUsed, isData, isGame}
-use Rattle.card_model.specs.Entries.{wrongKind, wrongFlag, wrongFirst, wrongSize, wrongOffset, wrongEntry, entryAt, entryRow}
+use Rattle.card_model.specs.Entries.{kind, flag, isProtected, protectionOf, firstBlock, nameOf, timeOf, size, headerOffset, isUsed, isData, isGame}
+use Rattle.card_model.specs.Entries.{wrongKind, wrongFirst, wrongSize, wrongOffset, wrongEntry, entryAt, entryRow}
 use Rattle.card_model.specs.Entries.{isNamed, nameTaken, nameRow}
 use Rattle.card_model.specs.Files.{chainStep, chain, chainOf, badChain, chainRow, fileOf, filesBefore, sharesBlock}
 use Rattle.card_model.specs.Files.{sharingRow, breaksGameRule, gameRow, isOrphan, orphans}
@@ -81,8 +81,8 @@ unfolding allSamples flashSamples unwritten page292 block292 checksumOf crcFrom 
     cleared firstCleared number payload rightChecksum newBlock word wordBytes magic headerNumber version bitmapOf
     flash.lengthRow headerRows sequenceRow refusal
     cardLength blockAt rootOf fatPlace tableOf entryBlock entryByte entryPlace directoryOf magicRow rightFields fieldsRow fatEntry
-    linkOf linkAt systemEntry wrongSystem wrongHidden wrongUser systemRow hiddenRow userRow kind flag firstBlock nameOf
-    timeOf size headerOffset isUsed isData isGame wrongKind wrongFlag wrongFirst wrongSize wrongOffset wrongEntry entryAt
+    linkOf linkAt systemEntry wrongSystem wrongHidden wrongUser systemRow hiddenRow userRow kind flag isProtected protectionOf firstBlock nameOf
+    timeOf size headerOffset isUsed isData isGame wrongKind wrongFirst wrongSize wrongOffset wrongEntry entryAt
     entryRow isNamed nameTaken nameRow chainStep chain chainOf badChain chainRow fileOf filesBefore sharesBlock sharingRow
     breaksGameRule gameRow isOrphan orphans lengthRow tableRows directoryRows verdictOf checkOf listedEntry firstUsed listOf
     entryNamed readRows readVerdict readBuffer rootBlock systemTable unusedEntry entryBytes emptyTable linked twoBlocks threeBlocks

@@ -38,6 +38,11 @@ pub fn nearly(prng: &mut Prng, name: Name) -> Vec<u8> {
     name
 }
 
+/// A copy flag: all values are met, and those that a test may take for others often.
+pub fn any_flag(prng: &mut Prng) -> u8 {
+    prng.pick_or_byte(&[0x00, 0x00, 0x01, 0x7f, 0x80, 0xfe, 0xff, 0xff])
+}
+
 /// A file that is to be written.
 pub struct Draft {
     name: Vec<u8>,
@@ -52,7 +57,7 @@ impl Draft {
     pub fn any(prng: &mut Prng, name: Name, size: usize) -> Draft {
         let mut draft = Draft {
             name: name.to_vec(),
-            flag: prng.pick(&[0, 0xff]),
+            flag: any_flag(prng),
             time: prng.array::<8>().to_vec(),
             offset: prng.below(size) as u64,
             data: vec![0; BLOCK * size],
@@ -71,11 +76,10 @@ impl Draft {
     }
 
     fn spoil(&mut self, prng: &mut Prng, size: usize) {
-        match prng.below(5) {
+        match prng.below(4) {
             0 => self.name.resize(prng.pick(&[0, 1, 11, 13, 24]), b'A'),
             1 => self.time.resize(prng.pick(&[0, 1, 7, 9, 16]), 0),
             2 => self.data.resize(any_length(prng, size), 0),
-            3 => self.flag = prng.pick_or_byte(&[0x01, 0x7f, 0x80, 0xfe]),
             _ => self.offset = any_offset(prng, size as u64),
         }
     }

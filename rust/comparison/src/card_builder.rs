@@ -5,7 +5,7 @@ use std::collections::BTreeSet;
 use inputs::card::{put, Card, File, Name, CARD, DAMAGED, DATA, ENTRIES, FREE, GAME, LAST, USER};
 use inputs::Prng;
 
-use crate::card_arguments::{any_file, any_name};
+use crate::card_arguments::{any_file, any_flag, any_name};
 
 /// Of so many blocks one is as good as never met.
 const NEVER: usize = usize::MAX;
@@ -114,7 +114,7 @@ fn lay_files(prng: &mut Prng, card: &mut Card, chains: Vec<Vec<u16>>, game: bool
         let kind = if is_game { GAME } else { DATA };
         card.add(File { entry, kind, name: new_name(prng, &mut names), blocks });
         let bytes = card.entry_mut(entry);
-        bytes[0x01] = prng.pick(&[0, 0xff]);
+        bytes[0x01] = any_flag(prng);
         put(bytes, 0x1a, if is_game { prng.word() } else { prng.below(size) as u16 });
     }
     if prng.one_in(2) {

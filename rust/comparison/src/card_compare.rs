@@ -180,10 +180,15 @@ fn typed_entry(entry: &card::Entry) -> raw::CardEntry {
         card::Kind::Data => 0x33,
         card::Kind::Game => 0xcc,
     };
+    let copy_protected = match entry.protection {
+        card::CopyProtection::Copyable => 0,
+        card::CopyProtection::Protected => 1,
+    };
     raw::CardEntry {
         entry: entry.entry.into(),
         kind,
         flag: entry.flag.into(),
+        copy_protected,
         first: entry.first.into(),
         size: entry.size.into(),
         offset: entry.offset.into(),

@@ -65,11 +65,10 @@ fn directory_entry(prng: &mut Prng, card: &mut Card) {
     let at = prng.below(card.files.len());
     let (entry, size) = (card.files[at].entry, card.files[at].blocks.len() as u16);
     let bytes = card.entry_mut(entry);
-    match prng.below(5) {
+    match prng.below(4) {
         0 => bytes[0] = prng.pick_or_byte(&[1, 0x32, 0x34, 0xcd, 0xff]),
-        1 => bytes[1] = prng.pick_or_byte(&[1, 0x7f, 0xfe]),
-        2 => put(bytes, 0x02, prng.pick(&[200, 201, 255, 256, 0x100 + size, 0xffff])),
-        3 => put(bytes, 0x18, prng.pick(&[0, 201, 256, 0x100 + size, 0xffff])),
+        1 => put(bytes, 0x02, prng.pick(&[200, 201, 255, 256, 0x100 + size, 0xffff])),
+        2 => put(bytes, 0x18, prng.pick(&[0, 201, 256, 0x100 + size, 0xffff])),
         _ => put(bytes, 0x1a, prng.pick(&[size, size + 1, 0x100, 0xffff])),
     }
 }

@@ -104,7 +104,7 @@ fn flags_offsets_and_sizes_are_not_cut() {
     let data = data(3);
     let file = new_file(&data);
     for flag in 0..=255 {
-        assert_eq!(same_write(&card, &NewFile { flag, ..file }), flag == 0 || flag == 0xff);
+        assert!(same_write(&card, &NewFile { flag, ..file }));
     }
     for bit in 0..u64::BITS {
         let offset = 1 << bit;

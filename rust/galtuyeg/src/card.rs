@@ -84,8 +84,8 @@ pub enum Reason {
     HiddenBlock,
     /// 25: a table entry of a user block is none of FFFC, FFFF, FFFA and 0 to 199.
     UserBlock,
-    /// 26: a bad directory entry. With [`Place::WholeCard`], of a [`write()`]: the copy flag is neither 00
-    /// nor FF, or the header offset isn't below the size.
+    /// 26: a bad directory entry. With [`Place::WholeCard`], of a [`write()`]: the header offset isn't below
+    /// the size.
     Entry,
     /// 27: a chain that doesn't end at the file's size.
     Chain,
@@ -164,7 +164,7 @@ impl fmt::Display for Reason {
             Reason::SystemBlock => "a system block's table entry is wrong",
             Reason::HiddenBlock => "a hidden block's table entry is neither free nor damaged",
             Reason::UserBlock => "a user block's table entry says nothing known",
-            Reason::Entry => "bad directory entry, or bad copy flag or header offset of a new file",
+            Reason::Entry => "bad directory entry, or bad header offset of a new file",
             Reason::Chain => "the file's chain does not end at its size",
             Reason::SharedBlock => "the file has a block of an earlier file",
             Reason::SameName => {
@@ -242,6 +242,16 @@ pub enum Kind {
     Game,
 }
 
+/// What a file's copy flag says. It is for whoever copies files: every call takes a protected file like
+/// any other.
+#[derive(Clone, Copy, Debug, PartialEq, Eq, Hash)]
+pub enum CopyProtection {
+    /// FF: it is not to be copied.
+    Protected,
+    /// Any other byte: it may be copied.
+    Copyable,
+}
+
 /// A used directory entry.
 #[derive(Clone, Copy, Debug, PartialEq, Eq, Hash)]
 pub struct Entry {
@@ -249,8 +259,10 @@ pub struct Entry {
     pub entry: u8,
     /// Data or game.
     pub kind: Kind,
-    /// The copy flag, 00 or FF.
+    /// The copy flag, any byte.
     pub flag: u8,
+    /// What the copy flag says.
+    pub protection: CopyProtection,
     /// The first block, 0 to 199.
     pub first: u8,
     /// The size in blocks, 1 to 200.
@@ -268,7 +280,7 @@ pub struct Entry {
 pub struct NewFile<'a> {
     /// The name, any bytes that no file of the card has for its name.
     pub name: [u8; NAME_BYTES],
-    /// The copy flag, 00 or FF.
+    /// The copy flag, any byte: FF is protected, all others may be copied.
     pub flag: u8,
     /// The time, stored untested.
     pub time: [u8; TIME_BYTES],
@@ -391,10 +403,16 @@ fn entry(listed: &raw::CardEntry) -> Entry {
         0xcc => Kind::Game,
         other => broken("the entry type", other),
     };
+    let protection = match listed.copy_protected {
+        0 => CopyProtection::Copyable,
+        1 => CopyProtection::Protected,
+        other => broken("the copy protection", other),
+    };
     Entry {
         entry: byte("the entry", listed.entry),
         kind,
         flag: byte("the copy flag", listed.flag),
+        protection,
         first: byte("the first block", listed.first),
         size: byte("the size", listed.size),
         offset: word("the header offset", listed.offset),

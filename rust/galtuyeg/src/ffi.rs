@@ -54,8 +54,10 @@ pub struct CardEntry {
     pub entry: u64,
     /// 0x33 data, 0xCC game. The header calls it `type`.
     pub kind: u64,
-    /// The copy flag.
+    /// The copy flag, any byte.
     pub flag: u64,
+    /// What that says: 1 protected, 0 copyable.
+    pub copy_protected: u64,
     /// The first block.
     pub first: u64,
     /// The size in blocks.

@@ -11,7 +11,7 @@ use crate::ffi;
 pub use crate::ffi::{CardChecked, CardEntry, CardVerdict, NextLive, Report};
 
 /// The library's interface that this crate was written for: `GALTUYEG_VERSION` of `include/galtuyeg.h`.
-pub const VERSION: u32 = 2;
+pub const VERSION: u32 = 3;
 
 /// The interface of the library that is linked. Where it isn't [`VERSION`] the two don't fit.
 pub fn version() -> u32 {
@@ -114,7 +114,7 @@ pub fn card_read(card: &[u8], name: &[u8], index: u64, block: &mut [u8]) -> Card
     }
 }
 
-/// Puts a data file onto the card: its name, 12 bytes that no file has, copy flag, 00 or FF, time, 8 bytes,
+/// Puts a data file onto the card: its name, 12 bytes that no file has, copy flag, any byte, time, 8 bytes,
 /// header offset, below its size in blocks, and data, 1 to 200 blocks of 512: 0, 20 to 30, then 33, 26, 29,
 /// 34.
 pub fn card_write(

@@ -1,6 +1,6 @@
 //! The typed calls on a card.
 
-use galtuyeg::card::{self, Checked, Entry, Kind, NewFile, Place, Reason, Refusal};
+use galtuyeg::card::{self, Checked, CopyProtection, Entry, Kind, NewFile, Place, Reason, Refusal};
 use inputs::card::{put, Card, File, BLOCK, CARD, DATA, FREE, GAME, LAST, ROOT, TABLE};
 use inputs::Prng;
 
@@ -23,6 +23,7 @@ fn a_sound_card_is_listed_and_read() {
         entry: 16,
         kind: Kind::Data,
         flag: 0,
+        protection: CopyProtection::Copyable,
         first: 199,
         size: 2,
         offset: 0,
@@ -153,6 +154,7 @@ fn a_written_file_is_listed_and_read() {
         entry: 0,
         kind: Kind::Data,
         flag: 0xff,
+        protection: CopyProtection::Protected,
         first: 198,
         size: 3,
         offset: 2,
@@ -169,6 +171,19 @@ fn a_written_file_is_listed_and_read() {
 }
 
 #[test]
+fn a_written_flag_is_listed_as_given() {
+    let data = blocks(1);
+    for flag in 0..=0xff {
+        let mut card = sound();
+        card::write(&mut card, &NewFile { flag, ..new_file(&data) }).unwrap();
+        let entry = card::list(&card, 0).unwrap().unwrap();
+        let protection =
+            if flag == 0xff { CopyProtection::Protected } else { CopyProtection::Copyable };
+        assert_eq!((entry.flag, entry.protection), (flag, protection));
+    }
+}
+
+#[test]
 fn a_refused_write_changes_nothing() {
     let before = sound();
     let (one, long) = (blocks(1), blocks(201));
@@ -177,7 +192,6 @@ fn a_refused_write_changes_nothing() {
         (new_file(&[]), Reason::BufferLength, whole),
         (new_file(&one[1..]), Reason::BufferLength, whole),
         (new_file(&long), Reason::BufferLength, whole),
-        (NewFile { flag: 0x01, ..new_file(&one) }, Reason::Entry, whole),
         (NewFile { offset: 1, ..new_file(&one) }, Reason::Entry, whole),
         (NewFile { offset: 1 << 16, ..new_file(&one) }, Reason::Entry, whole),
         (NewFile { offset: 1 << 32, ..new_file(&one) }, Reason::Entry, whole),

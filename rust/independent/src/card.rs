@@ -98,8 +98,10 @@ pub struct Entry {
     pub entry: u64,
     /// 0x33 for data, 0xCC for a game.
     pub kind: u8,
-    /// Copy flag: 0x00 or 0xFF.
+    /// Copy flag as stored.
     pub flag: u8,
+    /// Whether that says copy protected: 0xFF does, any other byte does not.
+    pub is_copy_protected: bool,
     /// First block of the file.
     pub first: u64,
     /// Size of the file in blocks.

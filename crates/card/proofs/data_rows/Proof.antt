@@ -2,7 +2,6 @@
 use mathlib.Core.Path.{_≡_, sym, _∙_}
 use mathlib.Core.Bool.{false}
 use borrow.Author.Tests.{lt-ltb, le-ltb, le-leb, lt-leb}
-use Rattle.card_model.specs.Entries.{wrongFlag}
 use Rattle.card_updates.specs.Write.{NewFile, givenFile, badLengths, dataRows}
 use borrow.Author.Needs.{needs}
 use Rattle.card.proofs.data_rows.Statement.{statement}
@@ -12,9 +11,6 @@ use Rattle.card.proofs.data_rows.Tie as tie
 
 abbrev measured : tie.Else1 → tie.After-bad-lengths
 measured c = c .before
-
-abbrev few : tie.Else3 → tie.Else2
-few c = c .before .before
 
 abbrev start : tie.After-bad-lengths → tie.Start
 start c = c .before .before .before .before
@@ -30,9 +26,6 @@ tested c = c .bad-lengths .ensures (start c .args .numbers .flag)
 
 right-lengths : (c : tie.Else1) → badLengths (file (measured c)) ≡ false
 right-lengths c = sym (tested (measured c)) ∙ c .if1 .left
-
-right-flag : (c : tie.Else3) → wrongFlag (file (measured (few c .before)) .flag) ≡ false
-right-flag c = sym (c .before .wrong-flag .ensures) ∙ c .if3 .left
 
 returns : tie.Need-returns
 unfolding dataRows
@@ -51,23 +44,14 @@ unfolding dataRows
 returns-3 c =
     let t = c .before in
     let m = t .before .before in
-    c .refused-at3 .ensures ∙ rw (right-lengths (m .before), le-ltb _ _ (m .if2 .left), sym (t .before .wrong-flag .ensures) ∙ t .if3 .taken)
+    c .refused-at3 .ensures ∙ rw (right-lengths (m .before), le-ltb _ _ (m .if2 .left), le-leb _ _ (t .if3 .taken))
 
 returns-4 : tie.Need-returns-4
 unfolding dataRows
 returns-4 c =
     let t = c .before in
-    let g = t .before .before in
-    let m = few g in
-    c .refused-at4 .ensures ∙ rw (right-lengths (m .before), le-ltb _ _ (m .if2 .left), right-flag g, le-leb _ _ (t .if4 .taken))
-
-returns-5 : tie.Need-returns-5
-unfolding dataRows
-returns-5 c =
-    let t = c .before in
-    let g = t .before .before in
-    let m = few g in
-    c .done .ensures ∙ rw (right-lengths (m .before), le-ltb _ _ (m .if2 .left), right-flag g, lt-leb _ _ (t .if4 .left))
+    let m = t .before .before in
+    c .done .ensures ∙ rw (right-lengths (m .before), le-ltb _ _ (m .if2 .left), lt-leb _ _ (t .if3 .left))
 
 pub data-rows-spec : {M : Type 1} → statement M
 data-rows-spec =
@@ -79,9 +63,6 @@ data-rows-spec =
     (λ c κs. search needs)
     returns-2
     (λ c κs. search needs)
-    (λ c κs. search needs)
     returns-3
     (λ c κs. search needs)
-    returns-4
-    (λ c κs. search needs)
-    returns-5)
+    returns-4)

@@ -1,7 +1,7 @@
 //! The calls that change a card: a data file is put onto it, a file is taken
 //! off.
 
-use super::directory::{data_record, is_copy_flag, record_mut, RECORD};
+use super::directory::{data_record, record_mut, RECORD};
 use super::table::{set_entry, FREE, LAST};
 use super::{
     Refusal, Volume, BLOCK, NAME, NO_ROOM, NO_SUCH_FILE, SAME_NAME, TIME, USER_BLOCKS,
@@ -13,7 +13,7 @@ use super::{
 pub struct NewFile<'a> {
     /// The name, 12 bytes.
     pub name: &'a [u8],
-    /// Copy flag: 0x00 or 0xFF.
+    /// Copy flag, any byte.
     pub flag: u8,
     /// The creation time, 8 bytes, stored as it is.
     pub time: &'a [u8],
@@ -31,7 +31,7 @@ impl<'a> NewFile<'a> {
         if self.name.len() != NAME || self.time.len() != TIME || !is_whole {
             return Err(Refusal::whole(WRONG_BUFFER));
         }
-        if !is_copy_flag(self.flag) || self.offset >= blocks.len() as u64 {
+        if self.offset >= blocks.len() as u64 {
             return Err(Refusal::whole(WRONG_RECORD));
         }
         Ok(blocks)

@@ -12,7 +12,6 @@ const RECORDS: usize = DIRECTORY_BLOCKS * RECORDS_PER_BLOCK;
 const UNUSED: u8 = 0x00;
 const DATA: u8 = 0x33;
 const GAME: u8 = 0xCC;
-const COPY_ALLOWED: u8 = 0x00;
 const COPY_PROTECTED: u8 = 0xFF;
 
 /// A directory entry as stored.
@@ -76,10 +75,7 @@ impl<'a> Record<'a> {
             GAME => true,
             _ => return false,
         };
-        offset_fits
-            && is_copy_flag(self.flag())
-            && self.first() < USER_BLOCKS
-            && (1..=USER_BLOCKS).contains(&self.size())
+        offset_fits && self.first() < USER_BLOCKS && (1..=USER_BLOCKS).contains(&self.size())
     }
 
     pub(super) fn describe(self, entry: u8) -> Entry {
@@ -87,6 +83,7 @@ impl<'a> Record<'a> {
             entry: entry.into(),
             kind: self.kind(),
             flag: self.flag(),
+            is_copy_protected: self.flag() == COPY_PROTECTED,
             first: self.first().into(),
             size: self.size().into(),
             offset: self.offset().into(),
@@ -94,10 +91,6 @@ impl<'a> Record<'a> {
             time: self.time(),
         }
     }
-}
-
-pub(super) fn is_copy_flag(flag: u8) -> bool {
-    matches!(flag, COPY_ALLOWED | COPY_PROTECTED)
 }
 
 /// The entry of a new data file, whose offset is below its size. Its reserved

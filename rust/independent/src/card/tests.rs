@@ -241,8 +241,8 @@ fn fields_of_an_entry() {
         (0x00, 0xFF34, false),
         (0x00, 0xFFFF, false),
         (0x00, 0x0033, true),
-        (0x00, 0x0133, false),
-        (0x00, 0xFE33, false),
+        (0x00, 0x0133, true),
+        (0x00, 0xFE33, true),
         (0x02, 200, false),
         (0x02, 0x100 + 199, false),
         (0x02, LAST, false),
@@ -393,6 +393,7 @@ fn list_takes_any_start() {
         entry: 3,
         kind: DATA,
         flag: 0xFF,
+        is_copy_protected: true,
         first: 199,
         size: 3,
         offset: 2,
@@ -400,8 +401,25 @@ fn list_takes_any_start() {
         time: [0x19, 0x99, 0x09, 0x09, 1, 2, 3, 3],
     };
     assert_eq!(list(&card, 1), Ok(expected));
-    card[entry_at(16) + 1] = 1;
+    card[entry_at(16)] = 1;
     assert_eq!(list(&card, 0), at_entry(26, 16));
+}
+
+#[test]
+fn a_flag_of_ff_alone_is_protected() {
+    let card = sample();
+    for flag in 0..=255 {
+        let mut flagged = card.clone();
+        flagged[entry_at(3) + 1] = flag;
+        let expected = Entry {
+            flag,
+            is_copy_protected: flag == 0xFF,
+            ..list(&card, 0).unwrap()
+        };
+        assert_eq!(list(&flagged, 0), Ok(expected));
+        assert_eq!(list(&flagged, 4), list(&card, 4));
+        assert_eq!(check(&flagged), Ok(0));
+    }
 }
 
 #[test]
@@ -479,7 +497,6 @@ mod model {
         let at = entry_at(entry);
         let size = word(card, at + 0x18);
         !(card[at] == DATA || card[at] == GAME)
-            || !(card[at + 1] == 0 || card[at + 1] == 0xFF)
             || word(card, at + 2) >= 200
             || !(1..=200).contains(&size)
             || (card[at] == DATA && word(card, at + 0x1A) >= size)
@@ -569,8 +586,7 @@ mod model {
         let is_whole = (1..=200).contains(&size) && file.data.len() == 512 * size;
         let has_lengths = file.name.len() == 12 && file.time.len() == 8 && is_whole;
         refuse(33, !has_lengths)?;
-        let is_flag = file.flag == 0 || file.flag == 0xFF;
-        refuse(26, !is_flag || file.offset >= size as u64)?;
+        refuse(26, file.offset >= size as u64)?;
         if let Some(entry) = named(card, file.name) {
             return Err((29, Entry(entry as u64)));
         }

@@ -4,7 +4,7 @@ use mathlib.Core.Path.{_≡_, sym, _∙_}
 use mathlib.Core.Bool.{true, false}
 use mathlib.Core.List.{List}
 use borrow.Author.Tests.{not-true, not-false}
-use Rattle.card_model.specs.Entries.{flag, isUsed, wrongKind, wrongFlag, wrongFirst, wrongSize, wrongEntry}
+use Rattle.card_model.specs.Entries.{isUsed, wrongKind, wrongFirst, wrongSize, wrongEntry}
 use borrow.Author.Needs.{needs}
 use Rattle.card_directory.proofs.entry.wrong_entry.Statement.{statement}
 use Rattle.card_directory.proofs.entry.wrong_entry.Tie as tie
@@ -24,23 +24,16 @@ right-kind : (c : tie.Else2) → wrongKind (entry (used c)) ≡ false
 right-kind c = sym (c .before .wrong-kind .ensures) ∙ c .if2 .left
 
 abbrev kind-right : tie.Else3 → tie.Else2
-kind-right c = c .before .before .before
+kind-right c = c .before .before
 
-right-flag : (c : tie.Else3) → wrongFlag (flag (entry (used (kind-right c)))) ≡ false
-unfolding flag
-right-flag c = sym (c .before .wrong-flag .ensures) ∙ c .if3 .left
+right-first : (c : tie.Else3) → wrongFirst (entry (used (kind-right c))) ≡ false
+right-first c = sym (c .before .wrong-first .ensures) ∙ c .if3 .left
 
-abbrev flag-right : tie.Else4 → tie.Else3
-flag-right c = c .before .before
-
-right-first : (c : tie.Else4) → wrongFirst (entry (used (kind-right (flag-right c)))) ≡ false
-right-first c = sym (c .before .wrong-first .ensures) ∙ c .if4 .left
-
-abbrev first-right : tie.Else5 → tie.Else4
+abbrev first-right : tie.Else4 → tie.Else3
 first-right c = c .before .before
 
-right-size : (c : tie.Else5) → wrongSize (entry (used (kind-right (flag-right (first-right c))))) ≡ false
-right-size c = sym (c .before .wrong-size .ensures) ∙ c .if5 .left
+right-size : (c : tie.Else4) → wrongSize (entry (used (kind-right (first-right c)))) ≡ false
+right-size c = sym (c .before .wrong-size .ensures) ∙ c .if4 .left
 
 returns : tie.Need-returns
 unfolding wrongEntry
@@ -51,33 +44,24 @@ unfolding wrongEntry
 returns-2 c = rw (is-used (c .before .before), sym (c .before .wrong-kind .ensures) ∙ c .if2 .taken)
 
 returns-3 : tie.Need-returns-3
-unfolding wrongEntry flag
+unfolding wrongEntry
 returns-3 c =
-    let k = c .before .before .before in
-    rw (is-used (used k), right-kind k, sym (c .before .wrong-flag .ensures) ∙ c .if3 .taken)
+    let k = c .before .before in
+    rw (is-used (used k), right-kind k, sym (c .before .wrong-first .ensures) ∙ c .if3 .taken)
 
 returns-4 : tie.Need-returns-4
 unfolding wrongEntry
 returns-4 c =
-    let f = c .before .before in
-    let k = kind-right f in
-    rw (is-used (used k), right-kind k, right-flag f, sym (c .before .wrong-first .ensures) ∙ c .if4 .taken)
+    let b = c .before .before in
+    let k = kind-right b in
+    rw (is-used (used k), right-kind k, right-first b, sym (c .before .wrong-size .ensures) ∙ c .if4 .taken)
 
 returns-5 : tie.Need-returns-5
 unfolding wrongEntry
 returns-5 c =
-    let b = c .before .before in
-    let f = flag-right b in
-    let k = kind-right f in
-    rw (is-used (used k), right-kind k, right-flag f, right-first b, sym (c .before .wrong-size .ensures) ∙ c .if5 .taken)
-
-returns-6 : tie.Need-returns-6
-unfolding wrongEntry
-returns-6 c =
     let b = first-right (c .before) in
-    let f = flag-right b in
-    let k = kind-right f in
-    rw (is-used (used k), right-kind k, right-flag f, right-first b, right-size (c .before), c .wrong-offset .ensures)
+    let k = kind-right b in
+    rw (is-used (used k), right-kind k, right-first b, right-size (c .before), c .wrong-offset .ensures)
 
 pub wrong-entry-spec : {M : Type 1} → statement M
 wrong-entry-spec =
@@ -87,12 +71,9 @@ wrong-entry-spec =
     returns
     (λ c κs. search needs)
     returns-2
-    (λ c. search needs)
     (λ c κs. search needs)
     returns-3
     (λ c κs. search needs)
     returns-4
     (λ c κs. search needs)
-    returns-5
-    (λ c κs. search needs)
-    returns-6)
+    returns-5)

@@ -84,6 +84,7 @@ fn a_file_that_was_written_is_listed_and_read() {
         entry: 0,
         kind: DATA,
         flag: 0xFF,
+        is_copy_protected: true,
         first: 196,
         size: 5,
         offset: 0,
@@ -197,10 +198,9 @@ fn flag_and_offset_of_a_new_file() {
             flag,
             ..new_file(b"NEW_FILE.DAT", &data)
         };
-        match flag {
-            0x00 | 0xFF => assert_eq!(write(&mut card.clone(), &file), Ok(())),
-            _ => assert_eq!(refused_write(&card, &file), whole(26)),
-        }
+        let mut taken = card.clone();
+        assert_eq!(write(&mut taken, &file), Ok(()));
+        assert_eq!(list(&taken, 0).unwrap().flag, flag);
     }
     for size in [1, 2, 200] {
         let file = new_file(b"NEW_FILE.DAT", &data[..512 * size as usize]);
@@ -259,8 +259,6 @@ fn writes_test_in_order() {
     assert_eq!(refused_write(&card, &file), whole(33));
     let (used, unused) = (name(3), name(4));
     file.name = &used;
-    assert_eq!(refused_write(&card, &file), whole(26));
-    file.flag = 0;
     assert_eq!(refused_write(&card, &file), whole(26));
     file.offset = 1;
     assert_eq!(refused_write(&card, &file), at_entry(29, 3));
@@ -345,17 +343,16 @@ impl Asked {
         };
         let mut asked = Asked {
             name: name(random.below(40)).to_vec(),
-            flag: [0, 0xFF][random.below(2)],
+            flag: random.below(256) as u8,
             time: vec![random.below(256) as u8; 8],
             offset: random.below(size.max(1)) as u64,
             data: vec![random.below(256) as u8; 512 * size],
         };
-        match random.below(20) {
+        match random.below(16) {
             0 => asked.name.truncate(random.below(12)),
             1 => asked.time.push(0),
             2 => asked.data.push(0),
-            3 => asked.flag ^= 1 << random.below(8),
-            4 => asked.offset += [size as u64, 1 << 16][random.below(2)],
+            3 => asked.offset += [size as u64, 1 << 16][random.below(2)],
             _ => {}
         }
         asked
