@@ -7,8 +7,8 @@ use mathlib.Core.Option.{Option, none, some}
 use mathlib.Core.Logic.{_↔_, _≢_}
 use native.Mathlib.Omega.{arith}
 use lib.Dec.{leb}
-use lib.ListN.{length, take, drop, length-drop}
-use lib.Seq.{length-take-le}
+use lib.ListN.{length, getD, take, drop, length-drop}
+use lib.Seq.{length-take-le, getD-take, getD-drop}
 use borrow.Author.Tests.{ltb-true, leb-true, eqb-true, eqb-false, eq-eqb, ne-eqb, not-false}
 use Rattle.words.specs.Lists.{concat, isSome, numbersFrom}
 use Rattle.words.proofs.Bools.{or-false-left, or-false-right, and-true-left, and-true-right}
@@ -29,6 +29,11 @@ unfolding cardLength entryPlace entryBlock entryByte
 entry-length card i e h =
     let after = drop (entryPlace i) card in
     rw (entry-is card i h) (length-take-le 32 after (omega (arith, length-drop (entryPlace i) card)))
+
+-- a byte of it is one of the card's
+pub entry-byte : (card : List ℕ) (i j : ℕ) → i < 208 → j < 32 → getD (entryAt (directoryOf card) i) j 0 ≡ getD card (entryPlace i + j) 0
+entry-byte card i j h l =
+    ap (λ (e : List ℕ). getD e j 0) (entry-is card i h) ∙ getD-take 32 (drop (entryPlace i) card) j 0 l ∙ getD-drop (entryPlace i) card j 0
 
 -- ---- the copy flag
 

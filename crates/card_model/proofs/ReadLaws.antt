@@ -8,7 +8,7 @@ use mathlib.Core.List.{List, [], map, append-nil}
 use mathlib.Core.Option.{Option, none, some}
 use native.Mathlib.Omega.{arith}
 use lib.ListN.{length, getD, take, drop, length-map, length-drop, List·getD-map}
-use lib.Seq.{length-take-le, getD-take, getD-drop}
+use lib.Seq.{length-take-le}
 use borrow.Author.Tests.{eq-eqb, ne-eqb, lt-leb, le-leb}
 use Rattle.words.specs.Lists.{concat, numbersFrom}
 use Rattle.words.proofs.ListLaws.{All, all-map, all-mono, map-same}
@@ -20,13 +20,13 @@ use Rattle.words.proofs.JoinLaws.{none-range}
 use Rattle.verdicts.specs.declared.Place.the-variants.{Whole}
 use Rattle.verdicts.specs.declared.Verdict.{Verdict}
 use Rattle.verdicts.specs.Rows.{done, refusedAt, accepted}
-use Rattle.card_model.specs.Layout.{cardLength, blockAt, tableOf, entryPlace, directoryOf}
+use Rattle.card_model.specs.Layout.{cardLength, blockAt, tableOf, directoryOf}
 use Rattle.card_model.specs.Entries.{flag, firstBlock, nameOf, size, isUsed, isNamed, nameTaken}
 use Rattle.card_model.specs.Files.{chain}
 use Rattle.card_model.specs.Calls.{verdictOf, firstUsed, listedEntry, listedFrom, notListed, listOf, entryNamed, readRows, readVerdict, fileBlock, readBuffer}
 use Rattle.card_model.specs.Sound.{SoundCard, NoRowRefuses, entryOn, fileOn, fileBytes, UsedEntry}
 use Rattle.card_model.specs.Theorems.{ShowsFlag, ShowsNothing}
-use Rattle.card_model.proofs.EntryLaws.{entry-is, entry-length, protected-says, copyable-says, right-entry, file-chain}
+use Rattle.card_model.proofs.EntryLaws.{entry-length, entry-byte, protected-says, copyable-says, right-entry, file-chain}
 use Rattle.card_model.proofs.SoundLaws.{sound-rows}
 use Rattle.card_model.proofs.ChainLaws.{chain-length, chain-below}
 
@@ -50,13 +50,11 @@ lists-none card s start f =
 -- what it says of the copy flag
 entry-shows : (card : List ℕ) (i : ℕ) → i < 208 → ShowsFlag card (listedEntry i (entryOn card i))
 unfolding listedEntry flag
-entry-shows card i h =
-    let from = drop (entryPlace i) card in
-    record {
-      raw = ap (λ (e : List ℕ). getD e 1 0) (entry-is card i h) ∙ getD-take 32 from 1 0 (omega arith) ∙ getD-drop (entryPlace i) card 1 0;
-      protected = protected-says (entryOn card i);
-      copyable = copyable-says (entryOn card i);
-    }
+entry-shows card i h = record {
+  raw = entry-byte card i 1 h (omega arith);
+  protected = protected-says (entryOn card i);
+  copyable = copyable-says (entryOn card i);
+}
 
 pub lists-flag : (card : List ℕ) (start : ℕ) → listOf card start .verdict .number ≡ 0 → ShowsFlag card (listOf card start)
 unfolding listOf firstUsed

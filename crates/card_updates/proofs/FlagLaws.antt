@@ -9,7 +9,7 @@ use mathlib.Core.Logic.{inl, inr}
 use native.Mathlib.Omega.{arith}
 use native.Mathlib.Decide.{decLt}
 use lib.ListN.{length, getD, take, drop, List·getD-eq-default}
-use lib.Seq.{drop-drop, getD-take, getD-drop}
+use lib.Seq.{drop-drop}
 use borrow.Author.Tests.{eqb-true}
 use Rattle.words.proofs.ListLaws.{All, take-drop, all-at}
 use Rattle.verdicts.specs.Rows.{accepted}
@@ -17,7 +17,7 @@ use Rattle.card_model.specs.Layout.{blockAt, rootOf, tableOf, entryPlace, direc
 use Rattle.card_model.specs.Entries.{kind, entryAt}
 use Rattle.card_model.specs.Calls.{lengthRow, verdictOf, checkOf, listedFrom, firstUsed, notListed, listOf, entryNamed, readRows, readVerdict, fileBlock, blockRead, readBuffer}
 use Rattle.card_model.specs.Sound.{SoundCard, entryOn, fileOn}
-use Rattle.card_model.proofs.EntryLaws.{entry-is}
+use Rattle.card_model.proofs.EntryLaws.{entry-is, entry-byte}
 use Rattle.card_model.proofs.SoundLaws.{accepted-sound, unless-accepts}
 use Rattle.card_updates.specs.Delete.{deleteRows, deleteVerdict}
 use Rattle.card_updates.specs.Write.{givenFile, takenBlocks, badLengths, dataRows, takenRow, roomRow, writeRows, writeVerdict}
@@ -44,12 +44,9 @@ module _ (card other : List ℕ) (same : SameBut isFlag card other) where
   module _ (i : ℕ) (h : i < 208) where
     entry-kind : kind (entryOn other i) ≡ kind (entryOn card i)
     unfolding kind
-    entry-kind = first other ∙ same .same-byte (entryPlace i + 0) (beside i 0 h (omega arith) (λ d. omega (arith, d))) ∙ sym (first card)
-      where
-        first : (l : List ℕ) → getD (entryOn l i) 0 0 ≡ getD l (entryPlace i + 0) 0
-        first l =
-            ap (λ (e : List ℕ). getD e 0 0) (entry-is l i h) ∙ getD-take 32 (drop (entryPlace i) l) 0 0 (omega arith)
-            ∙ getD-drop (entryPlace i) l 0 0
+    entry-kind =
+        entry-byte other i 0 h (omega arith) ∙ same .same-byte (entryPlace i + 0) (beside i 0 h (omega arith) (λ d. omega (arith, d)))
+        ∙ sym (entry-byte card i 0 h (omega arith))
 
     entry-rest : drop 2 (entryOn other i) ≡ drop 2 (entryOn card i)
     entry-rest = rest other ∙ same-part isFlag card other same (entryPlace i + 2) 30 later ∙ sym (rest card)

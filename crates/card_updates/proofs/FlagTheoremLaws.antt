@@ -5,15 +5,14 @@ use mathlib.Core.List.{List, [], _∷_}
 use mathlib.Core.Option.{some}
 use mathlib.Core.Logic.{_↔_}
 use native.Mathlib.Omega.{arith}
-use lib.ListN.{length, getD, drop}
-use lib.Seq.{getD-take, getD-drop}
+use lib.ListN.{length, getD}
 use Rattle.verdicts.specs.Rows.{done}
 use Rattle.card_model.specs.declared.CopyProtection.the-variants.{Protected}
 use Rattle.card_model.specs.Layout.{cardLength, entryPlace, directoryOf}
 use Rattle.card_model.specs.Entries.{flag}
 use Rattle.card_model.specs.Calls.{listedEntry, listOf}
 use Rattle.card_model.specs.Sound.{entryOn}
-use Rattle.card_model.proofs.EntryLaws.{entry-is, protected-says}
+use Rattle.card_model.proofs.EntryLaws.{entry-byte, protected-says}
 use Rattle.card_model.proofs.ReadLaws.{lists}
 use Rattle.card_updates.specs.Parts.{withPart}
 use Rattle.card_updates.specs.Write.{NewFile, givenFile, lowestUnused, writeVerdict, written}
@@ -47,8 +46,7 @@ module _ (card : List ℕ) (i byte : ℕ) (l : length card ≡ cardLength) (h : 
       let z : entryPlace i + 1 ≡ entryPlace i + 1 + 0 = omega arith in (
         only-at (inPart (entryPlace i + 1) 1) FlagByte card after (part-named card (entryPlace i + 1) (byte ∷ []) fits)
             (λ k e. flag-of i h (in-part-tells (entryPlace i + 1) 1 k e)),
-        ap (λ (e : List ℕ). getD e 1 0) (entry-is after i h) ∙ getD-take 32 (drop (entryPlace i) after) 1 0 (omega arith)
-            ∙ getD-drop (entryPlace i) after 1 0 ∙ ap (λ (k : ℕ). getD after k 0) z ∙ put-byte card (entryPlace i + 1) (byte ∷ []) fits 0 (omega arith),
+        entry-byte after i 1 h (omega arith) ∙ ap (λ (k : ℕ). getD after k 0) z ∙ put-byte card (entryPlace i + 1) (byte ∷ []) fits 0 (omega arith),
       )
 
 module _ (card : List ℕ) (f : NewFile) (offset : ℕ) (v : writeVerdict card f offset ≡ done) (i : ℕ) (e : lowestUnused (directoryOf card) ≡ some i) where
