@@ -22,11 +22,11 @@ use Rattle.card_updates.proofs.FileLaws.{word-drop}
 -- ---- one entry
 
 -- equal but for byte 1
-pub record SameButFlag (entry other : List ℕ) : Type 0 where
+pub record EntryAlike (entry other : List ℕ) : Type 0 where
   pub same-kind : kind other ≡ kind entry
   pub same-rest : drop 2 other ≡ drop 2 entry
 
-module _ (entry other : List ℕ) (s : SameButFlag entry other) where
+module _ (entry other : List ℕ) (s : EntryAlike entry other) where
   same-word : (k : ℕ) → word other (2 + k) ≡ word entry (2 + k)
   same-word k = word-drop other 2 k ∙ rw (s .same-rest) (sym (word-drop entry 2 k))
 
@@ -104,7 +104,7 @@ alike-refl l = record {
 
 -- ---- all of them
 
-module _ (directory others : List (List ℕ)) (s : (i : ℕ) → SameButFlag (entryAt directory i) (entryAt others i)) where
+module _ (directory others : List (List ℕ)) (s : (i : ℕ) → EntryAlike (entryAt directory i) (entryAt others i)) where
   abbrev a : ℕ → List ℕ
   a = entryAt directory
 

@@ -27,7 +27,7 @@ use Rattle.card_updates.proofs.PartLaws.{same-part}
 use Rattle.card_updates.proofs.PlaceLaws.{directory-length, same-root, same-table, same-block}
 use Rattle.card_updates.proofs.ReplaceLaws.{all-in, in-file-below}
 use Rattle.card_updates.proofs.DeleteLaws.{named-tells}
-use Rattle.card_updates.proofs.FieldLaws.{SameButFlag, alike-refl, same-file, same-named-entry, same-index, same-listing, same-rows, same-orphans}
+use Rattle.card_updates.proofs.FieldLaws.{EntryAlike, alike-refl, same-file, same-named-entry, same-index, same-listing, same-rows, same-orphans}
 use Rattle.card_updates.proofs.FlagByteLaws.{isFlag, outside, beside}
 
 module _ (card other : List ℕ) (same : SameBut isFlag card other) where
@@ -64,10 +64,10 @@ module _ (card other : List ℕ) (same : SameBut isFlag card other) where
   unfolding entryAt
   past l i h = List·getD-eq-default (directoryOf l) [] (omega (arith, directory-length l))
 
-  pub entries : (i : ℕ) → SameButFlag (entryOn card i) (entryOn other i)
+  pub entries : (i : ℕ) → EntryAlike (entryOn card i) (entryOn other i)
   entries i = go (decLt i 208)
     where
-      go : Dec (i < 208) → SameButFlag (entryOn card i) (entryOn other i)
+      go : Dec (i < 208) → EntryAlike (entryOn card i) (entryOn other i)
       go (yes h) = record { same-kind = entry-kind i h; same-rest = entry-rest i h }
       go (no h) =
           let e : entryOn other i ≡ entryOn card i = past other i (omega arith) ∙ sym (past card i (omega arith)) in
