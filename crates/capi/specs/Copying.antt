@@ -1,4 +1,4 @@
--- What C receives of a copy flag: "`copy_protected` (1 protected, 0 copyable) right after `flag`, which stays the raw byte" (request 3).
+-- What C receives of a copy flag: request 3's "protected or copyable" as 1 or 0, "and the raw byte".
 -- Assumes nothing.
 use Prim.Native.Nat.{ℕ, _+_}
 use mathlib.Core.Path.{_≡_}
