@@ -1,82 +1,41 @@
 -- The public calls answer as the model says: refused by rows 1 to 5, or by what is left of the call past them.
 -- Assumes nothing.
 use Prim.Native.Nat.{ℕ}
-use mathlib.Core.Path.{_≡_, refl, sym, ap, subst, _∙_}
-use mathlib.Core.Bool.{Bool, true, false, cond}
+use mathlib.Core.Path.{_≡_, refl, sym, ap, _∙_}
+use mathlib.Core.Bool.{false, cond}
 use mathlib.Core.List.{List, [], _∷_}
 use mathlib.Core.Option.{Option, none, some}
 use mathlib.Core.Logic.{_≢_}
 use native.Mathlib.Omega.{arith}
 use native.Mathlib.Decide.{ℕ-discrete}
 use lib.Dec.{eqb}
-use borrow.Author.Tests.{eqb-true, eqb-false, ne-eqb}
+use borrow.Author.Tests.{ne-eqb}
 use Rattle.words.specs.Lists.{toList}
 use Rattle.flash_model.specs.Partition.{refusal, contents, lowestLive}
 use Rattle.flash_model.specs.Update.{saved, erased}
-use Rattle.flash_model.specs.Calls.{Call, readRows, saveRows, codeOf, accepted, valuesOf, buffersOf, filledBuffers, changedImage, replyTo, after, Answered}
+use Rattle.flash_model.specs.Calls.{Call, codeAnswer, readRows, saveRows, codeOf, buffersOf, Answered}
 use Rattle.flash_model.specs.Calls.{Call.onPage, Call.onWhole, PageCall.read, PageCall.save, WholeCall.check, WholeCall.report, WholeCall.nextLive, WholeCall.erase}
-use Rattle.flash_model.specs.Demands.{namedBy}
-use Rattle.flash_model.proofs.SoundLaws.{unrefused-sound}
+use Rattle.flash_model.specs.Demands.{namedBy, onSlots}
+use Rattle.flash_model.proofs.CallLaws.{answer-refused, answer-done}
 use Rattle.flash_model.proofs.CodeLaws.{read-rows}
 use Rattle.flash_model.proofs.Demand2Laws.{refused-first}
-use Rattle.flash_partition.specs.Usable.{Usable}
-use Rattle.flash_partition.specs.OpenAnswers.{logOf, openingOf}
-use Rattle.flash_partition.specs.declared.opening.OpenedLog.{OpenedLog}
+use Rattle.flash_partition.specs.OpenAnswers.{openingOf}
 use Rattle.flash_partition.specs.declared.opening.Opened.the-variants as opening
+use Rattle.flash_partition.proofs.OpenedLaws.{opened-refused}
 use Rattle.flash_pages.specs.Rows.{orBuffer, readBuffer}
-use Rattle.flash.specs.Answers.{codeAnswer, reportAnswer, nextAnswer, countsOf, nextOf}
+use Rattle.flash.specs.Answers.{reportAnswer, nextAnswer, countsOf, nextOf}
 use Rattle.flash.specs.declared.Counts.{Counts}
 use Rattle.flash.specs.declared.Summary.the-variants as summaries
 use Rattle.flash.specs.declared.LiveNumber.{LiveNumber}
 
--- ---- what opening tells
-
-pub opened-refused : (image : List ℕ) (partition n : ℕ) → openingOf image partition ≡ opening.Refused n → (refusal image partition ≡ n) × (n ≢ 0)
-unfolding openingOf
-opened-refused image partition n e = go (eqb (refusal image partition) 0) refl e
-  where
-    go : (t : Bool) → eqb (refusal image partition) 0 ≡ t
-        → cond t (opening.Ready (logOf image)) (opening.Refused (refusal image partition)) ≡ opening.Refused n
-        → (refusal image partition ≡ n) × (n ≢ 0)
-    go true q f = let z : _≡_ {A = ℕ} 0 1 = cc in absurd (omega arith)
-    go false q f = let z : refusal image partition ≡ n = cc in (z, λ w. eqb-false (refusal image partition) 0 q (z ∙ w))
-
--- the image is no longer refused by them, and the log is of it
-pub record PastOpening (image : List ℕ) (partition : ℕ) (log : OpenedLog) : Type 0 where
-  pub unrefused : refusal image partition ≡ 0
-  pub is-usable : Usable image log
-
-pub past-opening : (image : List ℕ) (partition : ℕ) (log : OpenedLog) → openingOf image partition ≡ opening.Ready log → PastOpening image partition log
-unfolding openingOf logOf
-past-opening image partition log e = go (eqb (refusal image partition) 0) refl e
-  where
-    go : (t : Bool) → eqb (refusal image partition) 0 ≡ t
-        → cond t (opening.Ready (logOf image)) (opening.Refused (refusal image partition)) ≡ opening.Ready log
-        → PastOpening image partition log
-    go true q f =
-        let z = eqb-true (refusal image partition) 0 q in
-        let l : logOf image ≡ log = cc in
-        record {
-          unrefused = z;
-          is-usable = subst (Usable image) l (record { has-size = refl; is-sound = unrefused-sound image partition z; used-is = refl });
-        }
-    go false q f = let z : _≡_ {A = ℕ} 0 1 = cc in absurd (omega arith)
-
 -- ---- refused, or done
 
 module _ (image : List ℕ) (c : Call) where
-  pub answer-refused : (n : ℕ) → codeOf image c ≡ n → n ≢ 0 → Answered image c image (record { code = n; values = []; buffers = buffersOf c })
-  unfolding replyTo after accepted
-  answer-refused n e h = record { answer-is = rw (e, ne-eqb n 0 h); image-is = rw (e, ne-eqb n 0 h) }
-
-  pub answer-done : codeOf image c ≡ 0 → Answered image c (changedImage image c) (record { code = 0; values = valuesOf image c; buffers = filledBuffers image c })
-  unfolding replyTo after accepted
-  answer-done e = record { answer-is = rw e; image-is = rw e }
-
-  pub refused-by : (n : ℕ) → openingOf image (namedBy c) ≡ opening.Refused n → Answered image c image (record { code = n; values = []; buffers = buffersOf c })
-  refused-by n e =
+  pub refused-by : (n : ℕ) → onSlots c ≡ false → openingOf image (namedBy c) ≡ opening.Refused n
+      → Answered image c image (record { code = n; values = []; buffers = buffersOf c })
+  refused-by n plain e =
       let r = opened-refused image (namedBy c) n e in
-      answer-refused n (refused-first image c (λ z. r .1 (sym (r .0) ∙ z)) ∙ r .0) (r .1)
+      answer-refused image c n (refused-first image c plain (λ z. r .1 (sym (r .0) ∙ z)) ∙ r .0) (r .1)
 
 -- ---- past rows 1 to 5
 

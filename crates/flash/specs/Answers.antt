@@ -6,7 +6,7 @@ use mathlib.Core.Option.{Option, none, some}
 use lib.ListN.{length}
 use Rattle.flash_model.specs.Measures as sizes
 use Rattle.flash_model.specs.Partition as model
-use Rattle.flash_model.specs.Calls.{Reply}
+use Rattle.flash_model.specs.Calls.{Reply, codeAnswer}
 use Rattle.flash.specs.declared.Counts.{Counts}
 use Rattle.flash.specs.declared.Summary.{Summary}
 use Rattle.flash.specs.declared.Summary.the-variants.{Counted}
@@ -14,10 +14,6 @@ use Rattle.flash.specs.declared.Summary.the-variants as summaries
 use Rattle.flash.specs.declared.LiveNumber.{LiveNumber}
 use Rattle.flash.specs.declared.LiveNumber.the-variants.{Hit}
 use Rattle.flash.specs.declared.LiveNumber.the-variants as liveNumbers
-
--- An answer that is a code alone, with these buffers.
-abbrev pub codeAnswer : ℕ → List (List ℕ) → Reply
-codeAnswer n lent = record { code = n; values = []; buffers = lent }
 
 -- A report: "The report gives version, capacity, used and live." (document 01, "Partition measures")
 abbrev pub reportAnswer : Summary → Reply

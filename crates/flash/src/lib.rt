@@ -8,8 +8,8 @@ mod steps;
 use flash_partition::opening::Opened;
 use flash_partition::opening::open;
 ghost use mathlib.Core.List.{[], _∷_};
-ghost use Rattle.flash_model.specs.Calls.{Answered, Call.onPage, Call.onWhole, PageCall.read, PageCall.save, WholeCall.check, WholeCall.report, WholeCall.nextLive, WholeCall.erase};
-ghost use Rattle.flash.specs.Answers.{codeAnswer, reportAnswer, nextAnswer};
+ghost use Rattle.flash_model.specs.Calls.{Answered, codeAnswer, Call.onPage, Call.onWhole, PageCall.read, PageCall.save, WholeCall.check, WholeCall.report, WholeCall.nextLive, WholeCall.erase};
+ghost use Rattle.flash.specs.Answers.{reportAnswer, nextAnswer};
 
 // What a report counts.
 pub struct Counts {

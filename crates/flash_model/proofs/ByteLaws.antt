@@ -34,12 +34,12 @@ pub bytes-append : (a b : List ℕ) → Bytes a → Bytes b → Bytes (a ++ b)
 bytes-append [] b p q = q
 bytes-append (x ∷ a) b p q = (p .0, bytes-append a b (p .1) q)
 
-bytes-take : (n : ℕ) (l : List ℕ) → Bytes l → Bytes (take n l)
+pub bytes-take : (n : ℕ) (l : List ℕ) → Bytes l → Bytes (take n l)
 bytes-take zero l b = tt
 bytes-take (suc n) [] b = tt
 bytes-take (suc n) (x ∷ l) b = (b .0, bytes-take n l (b .1))
 
-bytes-drop : (n : ℕ) (l : List ℕ) → Bytes l → Bytes (drop n l)
+pub bytes-drop : (n : ℕ) (l : List ℕ) → Bytes l → Bytes (drop n l)
 bytes-drop zero l b = b
 bytes-drop (suc n) [] b = tt
 bytes-drop (suc n) (x ∷ l) b = bytes-drop n l (b .1)
@@ -62,7 +62,7 @@ bytes-at [] i b = omega arith
 bytes-at (x ∷ l) zero b = b .0
 bytes-at (x ∷ l) (suc i) b = bytes-at l i (b .1)
 
-word-bytes : (n : ℕ) → n < 65536 → Bytes (wordBytes n)
+pub word-bytes : (n : ℕ) → n < 65536 → Bytes (wordBytes n)
 unfolding wordBytes
 word-bytes n h = (omega arith, (omega arith, tt))
 

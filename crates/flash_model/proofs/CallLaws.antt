@@ -55,6 +55,17 @@ module _ (image : List ℕ) (c : Call) (image′ : List ℕ) (answer : Reply) (a
   unfolding replyTo
   refused-values n = ap (λ (r : Reply). r .values) (a .answer-is) ∙ ap (λ (t : Bool). cond t (valuesOf image c) []) (is-refused n)
 
+-- ---- how a call is answered: refused, or done
+
+module _ (image : List ℕ) (c : Call) where
+  pub answer-refused : (n : ℕ) → codeOf image c ≡ n → n ≢ 0 → Answered image c image (record { code = n; values = []; buffers = buffersOf c })
+  unfolding replyTo after accepted
+  answer-refused n e h = record { answer-is = rw (e, ne-eqb n 0 h); image-is = rw (e, ne-eqb n 0 h) }
+
+  pub answer-done : codeOf image c ≡ 0 → Answered image c (changedImage image c) (record { code = 0; values = valuesOf image c; buffers = filledBuffers image c })
+  unfolding replyTo after accepted
+  answer-done e = record { answer-is = rw e; image-is = rw e }
+
 -- ---- the expected page
 
 -- the bytes compared, and what they stand for

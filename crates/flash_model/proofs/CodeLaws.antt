@@ -1,5 +1,5 @@
 -- The later rows of a read and of a save, each in its turn, in plain logic. Assumes nothing.
-use Prim.Native.Nat.{ℕ, _≤_, _<_}
+use Prim.Native.Nat.{ℕ, suc, _≤_, _<_}
 use mathlib.Core.Path.{_≡_, refl, sym, ap, subst, _∙_}
 use mathlib.Core.Bool.{Bool, true, false, not, cond, _||_, true≢false}
 use mathlib.Core.List.{List}
@@ -12,24 +12,26 @@ use borrow.Author.Tests.{eqb-true, eqb-false, not-true, not-false}
 use Rattle.words.specs.Lists.{isSome}
 use Rattle.words.proofs.Bools.{or-false-left, or-false-right, or-true-either}
 use Rattle.flash_model.specs.Measures.{topNumber, legalNumber}
-use Rattle.flash_model.specs.Partition.{refusal, contents}
-use Rattle.flash_model.specs.Calls.{changedSince, wrongLengths, readRows, saveRows, codeOf}
-use Rattle.flash_model.specs.Calls.{PageCall.read, PageCall.save, Call.onPage}
+use Rattle.flash_model.specs.Partition.{row, first, refusal, contents}
+use Rattle.flash_model.specs.Slots.{dataNumber, slotRefusal, noSlot, noBlock}
+use Rattle.flash_model.specs.Calls.{changedSince, wrongLengths, readRows, saveRows, slotReadRows, slotSaveRows, codeOf}
+use Rattle.flash_model.specs.Calls.{PageCall.read, PageCall.save, PageCall.slotRead, PageCall.slotSave, Call.onPage}
 use Rattle.flash_model.specs.PageStore.{expectedPage}
 use Rattle.flash_model.specs.Demands.{ReadCodes, LengthsRefused, LengthsTaken, SaveCodes}
 use Rattle.flash_model.proofs.MeasureLaws.{legal-le, illegal-above}
-use Rattle.flash_model.proofs.RowLaws.{Says, by-test, is-wrong, is-right, says-other, first-zero}
+use Rattle.flash_model.proofs.RowLaws.{Says, by-test, is-wrong, is-right, says-other, row-zero, first-zero}
 use Rattle.flash_model.proofs.SoundLaws.{unrefused-sound}
+use Rattle.flash_model.proofs.SlotLaws.{SlotOpen, SlotThere, data-legal, slot-open, slot-there, block-most}
 use Rattle.flash_model.proofs.CallLaws.{same-seen, seen-same}
 use Rattle.flash_model.proofs.MeaningLaws.{contents-length}
 
 -- ---- what each test says
 
-says-7 : (o : Option (List ℕ)) → Says (not (isSome o)) (o ≡ none) (o ≢ none)
+pub says-7 : (o : Option (List ℕ)) → Says (not (isSome o)) (o ≡ none) (o ≢ none)
 says-7 none = record { applies = λ e. refl; passes = λ e. absurd (true≢false e); apart = λ e d. d e }
 says-7 (some page) = record { applies = λ e. absurd (true≢false (sym e)); passes = λ e d. true≢false (ap isSome d); apart = λ e d. d e }
 
-says-lengths : (expected page : List ℕ) → Says (wrongLengths expected page) (LengthsRefused expected page) (LengthsTaken expected page)
+pub says-lengths : (expected page : List ℕ) → Says (wrongLengths expected page) (LengthsRefused expected page) (LengthsTaken expected page)
 unfolding wrongLengths
 says-lengths expected page = record {
   applies = λ e. ⊎-elim (λ t. inl (says-other (length page) 60 .applies t)) (λ t. inr (neither (not-true seen t))) (or-true-either new (not seen) e);
@@ -57,7 +59,7 @@ module _ (image : List ℕ) (n : ℕ) where
     apart = λ h l. omega (arith, h, l);
   }
 
-  says-9 : (partition : ℕ) (expected : List ℕ) → refusal image partition ≡ 0
+  pub says-9 : (partition : ℕ) (expected : List ℕ) → refusal image partition ≡ 0
       → Says (changedSince image n expected) (expectedPage expected ≢ contents image n) (expectedPage expected ≡ contents image n)
   unfolding changedSince
   says-9 partition expected s = record {
@@ -167,3 +169,51 @@ module _ (image : List ℕ) (partition n : ℕ) where
         let z = first-zero (refusal image partition) (saveRows image n expected page) e in
         let m = save-meant image partition n expected page (z .0) .row-0 .0 (z .1) in
         record { unrefused-1-5 = z .0; in-range = m .0; page-60 = m .1 .0 }
+
+-- ---- of a slot's page call
+
+-- no row of it applies
+slot-rows : (r n8 last : ℕ) (t8 t42 t43 t : Bool) → first r (row (suc n8) t8 (row 42 t42 (row 43 t43 (row (suc last) t 0)))) ≡ 0
+    → (r ≡ 0) × (t8 ≡ false) × (t42 ≡ false) × (t43 ≡ false) × (t ≡ false)
+slot-rows r n8 last t8 t42 t43 t e =
+    let f = first-zero r (row (suc n8) t8 (row 42 t42 (row 43 t43 (row (suc last) t 0)))) e in
+    let g = row-zero n8 (row 42 t42 (row 43 t43 (row (suc last) t 0))) t8 (f .1) in
+    let h = row-zero 41 (row 43 t43 (row (suc last) t 0)) t42 (g .1) in
+    let i = row-zero 42 (row (suc last) t 0) t43 (h .1) in
+    (f .0, g .0, h .0, i .0, row-zero last 0 t (i .1) .0)
+
+-- what an accepted one names
+pub record AcceptedSlot (image : List ℕ) (partition slot block : ℕ) : Type 0 where
+  pub is-open : SlotOpen image partition
+  pub is-there : SlotThere image slot
+  pub block-0-1 : block ≤ 1
+
+module _ (image : List ℕ) (partition slot block : ℕ) where
+  pub slot-read-rows : (buffer : List ℕ) → codeOf image (onPage (slotRead partition slot block buffer)) ≡ 0
+      → AcceptedSlot image partition slot block × AcceptedRead image partition (dataNumber slot block)
+  unfolding codeOf slotReadRows
+  slot-read-rows buffer e =
+      let n = dataNumber slot block in
+      let p = slot-rows (slotRefusal image partition) 7 6 (not (eqb (length buffer) 60)) (noSlot image slot) (noBlock block) (not (isSome (contents image n))) e in
+      let o = slot-open image partition (p .0) in (
+        record { is-open = o; is-there = slot-there image slot (p .2); block-0-1 = block-most block (p .3) },
+        record { unrefused-1-5 = o .unrefused-1-5; there = says-7 (contents image n) .passes (p .4) },
+      )
+
+  pub slot-save-rows : (expected page : List ℕ) → codeOf image (onPage (slotSave partition slot block expected page)) ≡ 0
+      → AcceptedSlot image partition slot block × AcceptedSave image partition (dataNumber slot block) page × (changedSince image (dataNumber slot block) expected ≡ false)
+  unfolding codeOf slotSaveRows
+  slot-save-rows expected page e =
+      let n = dataNumber slot block in
+      let p = slot-rows (slotRefusal image partition) 7 8 (wrongLengths expected page) (noSlot image slot) (noBlock block) (changedSince image n expected) e in
+      let o = slot-open image partition (p .0) in
+      let t = slot-there image slot (p .2) in
+      let b = block-most block (p .3) in (
+        record { is-open = o; is-there = t; block-0-1 = b },
+        record {
+          unrefused-1-5 = o .unrefused-1-5;
+          in-range = data-legal (length image) slot block (o .size-is) (t .slot-most) b;
+          page-60 = says-lengths expected page .passes (p .1) .0;
+        },
+        p .4,
+      )

@@ -1,7 +1,7 @@
 -- Demand 2, from the laws of saves and of answered calls. Assumes nothing.
 use Prim.Native.Nat.{ℕ, _≤_}
 use mathlib.Core.Path.{_≡_, refl, sym, ap, subst, _∙_}
-use mathlib.Core.Bool.{not}
+use mathlib.Core.Bool.{true, false, not, true≢false, false≢true}
 use mathlib.Core.List.{List, [], _∷_, _++_}
 use mathlib.Core.Option.{Option, none, some}
 use mathlib.Core.Logic.{_↔_, _≢_, _⊎_, inl, inr}
@@ -14,10 +14,11 @@ use Rattle.flash_model.specs.Measures.{capacity, topNumber}
 use Rattle.flash_model.specs.UserBlock.{newBlock}
 use Rattle.flash_model.specs.Partition.{headerNumber, version, bitmapOf, allocated, row, first, refusal, Sound, contents, live, used, lowestLive}
 use Rattle.flash_model.specs.Update.{appendBlock, appended, holders, otherHolders, compacted, savedAt, saved, erased}
-use Rattle.flash_model.specs.Calls.{Call, Reply, codeOf, changedImage, Answered}
-use Rattle.flash_model.specs.Calls.{PageCall.read, PageCall.save, WholeCall.check, WholeCall.report, WholeCall.nextLive, WholeCall.erase, Call.onPage, Call.onWhole}
+use Rattle.flash_model.specs.Calls.{Call, Reply, codeOf, valuesOf, buffersOf, filledBuffers, changedImage, Answered}
+use Rattle.flash_model.specs.Calls.{PageCall.read, PageCall.save, PageCall.slotRead, PageCall.slotSave, WholeCall.check, WholeCall.report, WholeCall.nextLive, WholeCall.erase, WholeCall.slotFind, WholeCall.slotList, CompoundCall.claim, Call.onPage, Call.onWhole, Call.onPages}
+use Rattle.flash_model.specs.Slots.{slotRefusal}
 use Rattle.flash_model.specs.PageStore.{expectedPage}
-use Rattle.flash_model.specs.Demands.{NextLiveIs, SavedAs, ErasedAs, LowestFreeBlank, AppendedAt, CompactedAs, ProperSave, LengthsTaken, SaveCodes, namedBy, ReadOnly, SaveDone, Demand2}
+use Rattle.flash_model.specs.Demands.{fillsBuffer, NextLiveIs, SavedAs, ErasedAs, LowestFreeBlank, AppendedAt, CompactedAs, ProperSave, LengthsTaken, SaveCodes, namedBy, onSlots, ReadOnly, SaveDone, Demand2}
 use Rattle.flash_model.proofs.RowLaws.{first-zero, first-refused}
 use Rattle.flash_model.proofs.BitmapLaws.{free-bit}
 use Rattle.flash_model.proofs.BlockLaws.{new-length}
@@ -25,18 +26,37 @@ use Rattle.flash_model.proofs.SoundLaws.{unrefused-sound, sound-measure
 use Rattle.flash_model.proofs.AppendLaws.{bit-falls, bit-other, appended-block, bytes-below, bytes-above, appended-length}
 use Rattle.flash_model.proofs.CompactLaws.{compacted-as}
 use Rattle.flash_model.proofs.SaveLaws.{append-blank, blank-append, holders-writable, others-writable, erased-keeps, erased-contents, saved-keeps, saved-contents}
-use Rattle.flash_model.proofs.CallLaws.{answered-code, accepted-image, accepted-values, accepted-buffers, refused-image}
+use Rattle.flash_model.proofs.CallLaws.{answered-code, accepted-image, accepted-values, accepted-buffers, refused-image, refused-values, refused-buffers}
 use Rattle.flash_model.proofs.MeaningLaws.{contents-length, next-live, none-live}
 use Rattle.flash_model.proofs.CodeLaws.{read-codes, save-codes, read-rows, save-rows}
 
-pub refused-first : (image : List ℕ) (c : Call) → refusal image (namedBy c) ≢ 0 → codeOf image c ≡ refusal image (namedBy c)
+pub refused-first : (image : List ℕ) (c : Call) → onSlots c ≡ false → refusal image (namedBy c) ≢ 0 → codeOf image c ≡ refusal image (namedBy c)
 unfolding codeOf
-refused-first image (onPage (read partition n buffer)) h = first-refused (refusal image partition) _ h
-refused-first image (onPage (save partition n expected page)) h = first-refused (refusal image partition) _ h
-refused-first image (onWhole (check partition)) h = refl
-refused-first image (onWhole (report partition)) h = refl
-refused-first image (onWhole (nextLive partition start)) h = first-refused (refusal image partition) _ h
-refused-first image (onWhole (erase partition)) h = refl
+refused-first image (onPage (read partition n buffer)) o h = first-refused (refusal image partition) _ h
+refused-first image (onPage (save partition n expected page)) o h = first-refused (refusal image partition) _ h
+refused-first image (onPage (slotRead partition slot block buffer)) o h = absurd (true≢false o)
+refused-first image (onPage (slotSave partition slot block expected page)) o h = absurd (true≢false o)
+refused-first image (onWhole (check partition)) o h = refl
+refused-first image (onWhole (report partition)) o h = refl
+refused-first image (onWhole (nextLive partition start)) o h = first-refused (refusal image partition) _ h
+refused-first image (onWhole (erase partition)) o h = refl
+refused-first image (onWhole (slotFind partition product)) o h = absurd (true≢false o)
+refused-first image (onWhole (slotList partition start)) o h = absurd (true≢false o)
+refused-first image (onPages (claim partition one other)) o h = absurd (true≢false o)
+
+pub slots-refused-first : (image : List ℕ) (c : Call) → onSlots c ≡ true → slotRefusal image (namedBy c) ≢ 0 → codeOf image c ≡ slotRefusal image (namedBy c)
+unfolding codeOf
+slots-refused-first image (onPage (read partition n buffer)) o h = absurd (false≢true o)
+slots-refused-first image (onPage (save partition n expected page)) o h = absurd (false≢true o)
+slots-refused-first image (onPage (slotRead partition slot block buffer)) o h = first-refused (slotRefusal image partition) _ h
+slots-refused-first image (onPage (slotSave partition slot block expected page)) o h = first-refused (slotRefusal image partition) _ h
+slots-refused-first image (onWhole (check partition)) o h = absurd (false≢true o)
+slots-refused-first image (onWhole (report partition)) o h = absurd (false≢true o)
+slots-refused-first image (onWhole (nextLive partition start)) o h = absurd (false≢true o)
+slots-refused-first image (onWhole (erase partition)) o h = absurd (false≢true o)
+slots-refused-first image (onWhole (slotFind partition product)) o h = first-refused (slotRefusal image partition) _ h
+slots-refused-first image (onWhole (slotList partition start)) o h = first-refused (slotRefusal image partition) _ h
+slots-refused-first image (onPages (claim partition one other)) o h = first-refused (slotRefusal image partition) _ h
 
 whole-accepted : (image : List ℕ) → Sound image
     → (codeOf image (onWhole (check (headerNumber image))) ≡ 0)
@@ -45,16 +65,43 @@ whole-accepted : (image : List ℕ) → Sound image
 unfolding codeOf
 whole-accepted image s = (s, s, s)
 
+buffers-kept : (image : List ℕ) (c : Call) (image′ : List ℕ) (answer : Reply) → fillsBuffer c ≡ false → Answered image c image′ answer → answer .buffers ≡ buffersOf c
+buffers-kept image c image′ answer fills a = go (ℕ-discrete (answer .code) 0)
+  where
+    unfilled : (c : Call) → fillsBuffer c ≡ false → filledBuffers image c ≡ buffersOf c
+    unfilled (onPage (read partition n buffer)) f = absurd (true≢false f)
+    unfilled (onPage (save partition n expected page)) f = refl
+    unfilled (onPage (slotRead partition slot block buffer)) f = absurd (true≢false f)
+    unfilled (onPage (slotSave partition slot block expected page)) f = refl
+    unfilled (onWhole w) f = refl
+    unfilled (onPages c) f = refl
+
+    go : Dec (answer .code ≡ 0) → answer .buffers ≡ buffersOf c
+    go (yes e) = accepted-buffers image c image′ answer a e ∙ unfilled c fills
+    go (no n) = refused-buffers image c image′ answer a n
+
+no-values : (image : List ℕ) (c : Call) (image′ : List ℕ) (answer : Reply) → valuesOf image c ≡ [] → Answered image c image′ answer → answer .values ≡ []
+no-values image c image′ answer hands-none a = go (ℕ-discrete (answer .code) 0)
+  where
+    go : Dec (answer .code ≡ 0) → answer .values ≡ []
+    go (yes e) = accepted-values image c image′ answer a e ∙ hands-none
+    go (no n) = refused-values image c image′ answer a n
+
 read-only-keeps : (image : List ℕ) (c : Call) (image′ : List ℕ) (answer : Reply) → ReadOnly c → Answered image c image′ answer → image′ ≡ image
 read-only-keeps image c image′ answer looks a = go (ℕ-discrete (answer .code) 0)
   where
     unchanged : (c : Call) → ReadOnly c → changedImage image c ≡ image
     unchanged (onPage (read partition n buffer)) l = refl
     unchanged (onPage (save partition n expected page)) l = absurd l
+    unchanged (onPage (slotRead partition slot block buffer)) l = refl
+    unchanged (onPage (slotSave partition slot block expected page)) l = absurd l
     unchanged (onWhole (check partition)) l = refl
     unchanged (onWhole (report partition)) l = refl
     unchanged (onWhole (nextLive partition start)) l = refl
     unchanged (onWhole (erase partition)) l = absurd l
+    unchanged (onWhole (slotFind partition product)) l = refl
+    unchanged (onWhole (slotList partition start)) l = refl
+    unchanged (onPages (claim partition one other)) l = absurd l
 
     go : Dec (answer .code ≡ 0) → image′ ≡ image
     go (yes e) = accepted-image image c image′ answer a e ∙ unchanged c looks
@@ -123,7 +170,7 @@ module _ (image : List ℕ) (n : ℕ) (page image′ : List ℕ) (done : SaveDon
   is-saved : image′ ≡ saved image n page
   is-saved = accepted-image image it image′ (done .2) (done .3) (done .4)
 
-  save-keeps : SavedAs image n page image′
+  pub save-keeps : SavedAs image n page image′
   save-keeps =
       let k = saved-keeps image is-sound n page legal long in
       let contents-of = saved-contents image is-sound n page legal long in
@@ -206,7 +253,16 @@ erase-keeps image partition image′ answer a e =
 pub demand2 : Demand2
 demand2 = record {
   refused-first = refused-first;
+  slots-refused-first = slots-refused-first;
   whole-accepted = whole-accepted;
+  buffers-kept = buffers-kept;
+  page-values = λ image p image′ answer a. no-values image (onPage p) image′ answer refl a;
+  check-values = λ image partition image′ answer a. no-values image (onWhole (check partition)) image′ answer refl a;
+  erase-values = λ image partition image′ answer a. no-values image (onWhole (erase partition)) image′ answer refl a;
+  save-buffers = λ image partition n expected page image′ answer a. buffers-kept image _ image′ answer refl a;
+  slot-save-buffers = λ image partition slot block expected page image′ answer a. buffers-kept image _ image′ answer refl a;
+  find-buffers = λ image partition product image′ answer a. buffers-kept image _ image′ answer refl a;
+  claim-buffers = λ image partition one other image′ answer a. buffers-kept image _ image′ answer refl a;
   read-codes = read-codes;
   save-codes = save-codes;
   read-only-keeps = read-only-keeps;

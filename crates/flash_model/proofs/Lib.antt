@@ -12,12 +12,17 @@ pub mod AppendLaws
 pub mod CompactLaws
 pub mod RoomLaws
 pub mod SaveLaws
+pub mod SlotLaws
+pub mod PremiseLaws
 pub mod CallLaws
 pub mod MeaningLaws
 pub mod CodeLaws
 pub mod Demand2Laws
 pub mod Demand1Laws
 pub mod StoreLaws
+pub mod ClaimLaws
 pub mod RunLaws
+pub mod SlotRuleLaws
 pub mod ByteLaws
 pub mod WitnessLaws
+pub mod SlotWitnessLaws

@@ -1,11 +1,12 @@
 -- A row of the table of numbers, by what its test says, and groups of rows behind each other. Assumes nothing.
-use Prim.Native.Nat.{ℕ}
+use Prim.Native.Nat.{ℕ, suc}
 use mathlib.Core.Path.{_≡_, refl, sym, _∙_}
 use mathlib.Core.Bool.{Bool, true, false, not, cond, true≢false}
-use mathlib.Core.Logic.{_≢_}
+use mathlib.Core.Logic.{_↔_, _≢_}
+use native.Mathlib.Omega.{arith}
 use lib.Dec.{eqb}
 use borrow.Author.Tests.{eqb-true, eqb-false, ne-eqb, not-true, not-false}
-use Rattle.flash_model.specs.Partition.{first}
+use Rattle.flash_model.specs.Partition.{row, first}
 
 -- a row's test, and what it says where it applies and where it doesn't
 pub record Says (t : Bool) (Wrong Right : Type 0) : Type 0 where
@@ -38,6 +39,40 @@ says-other a b = record {
   passes = λ e. eqb-true a b (not-false (eqb a b) e);
   apart = λ d e. d e;
 }
+
+-- ---- one row before the later ones
+
+-- what a row tells of the number that it and the later ones give
+pub record RowTells (code refused later : ℕ) (Wrong Right : Type 0) : Type 0 where
+  pub here : (code ≡ refused) ↔ Wrong
+  pub past : (k : ℕ) → k ≢ refused → (code ≡ k) ↔ (Right × (later ≡ k))
+
+pub one-row : {Wrong Right : Type 0} (refused later : ℕ) (t : Bool) → Says t Wrong Right → later ≢ refused → RowTells (row refused t later) refused later Wrong Right
+one-row refused later true w n = record {
+  here = (λ e. w .applies refl, λ x. refl);
+  past = λ k d. (λ e. absurd (d (sym e)), λ r. absurd (w .apart (w .applies refl) (r .0)));
+}
+one-row refused later false w n = record {
+  here = (λ e. absurd (n e), λ x. absurd (w .apart x (w .passes refl)));
+  past = λ k d. (λ e. (w .passes refl, e), λ r. r .1);
+}
+
+pub row-not : (refused k later : ℕ) (t : Bool) → refused ≢ k → later ≢ k → row refused t later ≢ k
+row-not refused k later true d e = d
+row-not refused k later false d e = e
+
+-- a later row's meaning in place of the row
+pub past-row : {P R X Y : Type 0} → P ↔ (R × X) → X ↔ Y → P ↔ (R × Y)
+past-row p x = (λ e. (p .0 e .0, x .0 (p .0 e .1)), λ r. p .1 (r .0, x .1 (r .1)))
+
+-- past the last row
+pub past-last : {P R : Type 0} → P ↔ (R × (_≡_ {A = ℕ} 0 0)) → P ↔ R
+past-last p = (λ e. p .0 e .0, λ r. p .1 (r, refl))
+
+-- where no row applies
+pub row-zero : (refused later : ℕ) (t : Bool) → row (suc refused) t later ≡ 0 → (t ≡ false) × (later ≡ 0)
+row-zero refused later true e = absurd (omega (arith, e))
+row-zero refused later false e = (refl, e)
 
 -- ---- one group behind another
 

@@ -147,7 +147,7 @@ module _ (size partition : ℕ) (legal : legalSize size ≡ true) where
 
 -- ---- a full one: a block for every number
 
-module _ (size partition : ℕ) (page : List ℕ) (legal : legalSize size ≡ true) (l : length page ≡ 60) where
+module _ (size partition : ℕ) (page : ℕ → List ℕ) (legal : legalSize size ≡ true) (l : (n : ℕ) → length (page n) ≡ 60) where
   base : List ℕ
   base = formatted size partition legal
 
@@ -160,25 +160,25 @@ module _ (size partition : ℕ) (page : List ℕ) (legal : legalSize size ≡ tr
   base-sound = formatted-sound size partition legal
 
   all-blocks : List (List ℕ)
-  all-blocks = map (λ n. newBlock n page) (numbersFrom 0 (capacity size))
+  all-blocks = map (λ n. newBlock n (page n)) (numbersFrom 0 (capacity size))
 
   all-length : length all-blocks ≡ capacity size
   unfolding all-blocks
-  all-length = length-map (numbersFrom 0 (capacity size)) (λ n. newBlock n page) ∙ numbers-length 0 (capacity size)
+  all-length = length-map (numbersFrom 0 (capacity size)) (λ n. newBlock n (page n)) ∙ numbers-length 0 (capacity size)
 
   -- what holds of every new block
-  every-block : (P : List ℕ → Type 0) → ((n : ℕ) → n < capacity size → P (newBlock n page)) → All P all-blocks
+  every-block : (P : List ℕ → Type 0) → ((n : ℕ) → n < capacity size → P (newBlock n (page n))) → All P all-blocks
   unfolding all-blocks
   every-block P f =
-      all-map (λ n. newBlock n page) P (numbersFrom 0 (capacity size))
-      (all-range (λ n. P (newBlock n page)) 0 (capacity size) (λ n lo hi. f n (omega arith)))
+      all-map (λ n. newBlock n (page n)) P (numbersFrom 0 (capacity size))
+      (all-range (λ n. P (newBlock n (page n))) 0 (capacity size) (λ n lo hi. f n (omega arith)))
 
   all-writable : Writable base base-sound all-blocks
   all-writable = record {
-    whole = every-block (λ b. length b ≡ 64) (λ n h. new-length n page l);
-    right = every-block (λ b. rightChecksum b ≡ true) (λ n h. new-right n page l);
+    whole = every-block (λ b. length b ≡ 64) (λ n h. new-length n (page n) (l n));
+    right = every-block (λ b. rightChecksum b ≡ true) (λ n h. new-right n (page n) (l n));
     legal = every-block (λ b. legalNumber (length base) (number b) ≡ true)
-        (λ n h. rw (base-length, new-number n page l) (le-legal size n (omega (arith, measures-of size legal .top-number))));
+        (λ n h. rw (base-length, new-number n (page n) (l n)) (le-legal size n (omega (arith, measures-of size legal .top-number))));
     room = omega (arith, all-length, ap capacity base-length);
   }
 
@@ -192,17 +192,17 @@ module _ (size partition : ℕ) (page : List ℕ) (legal : legalSize size ≡ tr
       let number-is = header-number base full (k .same-header) ∙ formatted-number size partition legal in
       (k .same-length ∙ base-length, subst (λ (p : ℕ). refusal full p ≡ 0) number-is (k .still-sound))
 
-  full-contents : (n : ℕ) → n ≤ topNumber size → contents full n ≡ some page
+  full-contents : (n : ℕ) → n ≤ topNumber size → contents full n ≡ some (page n)
   unfolding full all-blocks
   full-contents n h =
       let range = numbersFrom 0 (capacity size) in
       compacted-contents base base-sound all-blocks all-writable n
-      ∙ ap (Option·map payload) (last-map (λ i. newBlock i page) (hasNumber n) range
-      ∙ ap (Option·map (λ i. newBlock i page))
-      (last-all (λ i. hasNumber n (newBlock i page)) (λ i. eqb i n) range
-      (all-range (λ i. hasNumber n (newBlock i page) ≡ eqb i n) 0 (capacity size) (λ i lo hi. rw (new-number i page l)))
+      ∙ ap (Option·map payload) (last-map (λ i. newBlock i (page i)) (hasNumber n) range
+      ∙ ap (Option·map (λ i. newBlock i (page i)))
+      (last-all (λ i. hasNumber n (newBlock i (page i))) (λ i. eqb i n) range
+      (all-range (λ i. hasNumber n (newBlock i (page i)) ≡ eqb i n) 0 (capacity size) (λ i lo hi. rw (new-number i (page i) (l i))))
       ∙ range-last n 0 (capacity size) (omega arith) (omega (arith, h, measures-of size legal .top-number))))
-      ∙ ap (λ (p : List ℕ). some p) (new-payload n page l)
+      ∙ ap (λ (p : List ℕ). some p) (new-payload n (page n) (l n))
 
   top-allocated : allocated full (capacity size) ≡ true
   unfolding full
@@ -220,11 +220,11 @@ module _ (size partition : ℕ) (page : List ℕ) (legal : legalSize size ≡ tr
       let a = allocated-used full (unrefused-sound full partition (full-keeps .1)) (capacity size) lo (omega (arith, ap capacity len)) in
       omega (arith, leb-true (capacity size) (used full) (sym a ∙ top-allocated), used-most full, ap capacity len)
 
-  full-bytes : partition < 256 → Bytes page → Bytes full
+  full-bytes : partition < 256 → ((n : ℕ) → Bytes (page n)) → Bytes full
   unfolding full base
   full-bytes h b =
       compacted-bytes base all-blocks (formatted-bytes size partition legal h)
-      (every-block Bytes (λ n i. new-bytes n page (omega (arith, i, measures-of size legal .two-bytes)) b))
+      (every-block Bytes (λ n i. new-bytes n (page n) (omega (arith, i, measures-of size legal .two-bytes)) (b n)))
 
 -- ---- any calls make a chain
 

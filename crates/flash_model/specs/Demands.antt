@@ -8,7 +8,7 @@ use mathlib.Core.Option.{none, some}
 use mathlib.Core.Logic.{_↔_, _≢_, _⊎_}
 use lib.Dec.{eqb}
 use lib.ListN.{length, getD, take, replicate}
-use Rattle.words.specs.Lists.{anyOf}
+use Rattle.words.specs.Lists.{keep, anyOf}
 use Rattle.words.specs.Words.{word, sameBytes}
 use Rattle.checksum.specs.Crc.{checksumOf}
 use Rattle.flash_model.specs.Measures.{legalSize, bitmapBlocks, firstBitmap, capacity, topNumber}
@@ -16,10 +16,11 @@ use Rattle.flash_model.specs.Bitmap.{bitByte, bitWeight, bitOf}
 use Rattle.flash_model.specs.UserBlock.{number, payload, rightChecksum, newBlock}
 use Rattle.flash_model.specs.Partition.{blockAt, magic, headerNumber, version, bitmapOf, allocated, refusal, Sound, contents, live, used, lowestLive}
 use Rattle.flash_model.specs.Update.{holders, otherHolders}
-use Rattle.flash_model.specs.Calls.{Call, Reply, codeOf, buffersOf, Answered}
-use Rattle.flash_model.specs.Calls.{PageCall.read, PageCall.save, WholeCall.check, WholeCall.report, WholeCall.nextLive, WholeCall.erase, Call.onPage, Call.onWhole}
+use Rattle.flash_model.specs.Slots.{slotRefusal}
+use Rattle.flash_model.specs.Calls.{PageCall, WholeCall, CompoundCall, Call, Reply, codeOf, buffersOf, Answered}
+use Rattle.flash_model.specs.Calls.{PageCall.read, PageCall.save, PageCall.slotRead, PageCall.slotSave, WholeCall.check, WholeCall.report, WholeCall.nextLive, WholeCall.erase, WholeCall.slotFind, WholeCall.slotList, CompoundCall.claim, Call.onPage, Call.onWhole, Call.onPages}
 use Rattle.flash_model.specs.PageStore.{expectedPage, ownedPages, storeReplies, storeFinal}
-use Rattle.flash_model.specs.Runs.{Step, Chain, final, ownedCalls, ownedAnswers, Item, stepsOf, callsInBoth, answersInBoth, WellMarked}
+use Rattle.flash_model.specs.Runs.{Step, Chain, final, PageStep, countsAs, onOwned, isSave, ownedOf, ownedSteps, callsOf, answersOf, callStands, MayStand, Item, Item.both, Item.between, stepsOf, stepsInBoth, WellMarked, SameButSeen}
 
 -- ---- what the definitions mean: document 01, "Partition measures"
 
@@ -101,18 +102,33 @@ pub record Meanings : Type 0 where
 
 -- ---- demand 1
 
+-- The slot calls.
+abbrev pub onSlots : Call → Bool
+onSlots (onPage (read partition n buffer)) = false
+onSlots (onPage (save partition n expected page)) = false
+onSlots (onPage (slotRead partition slot block buffer)) = true
+onSlots (onPage (slotSave partition slot block expected page)) = true
+onSlots (onWhole (check partition)) = false
+onSlots (onWhole (report partition)) = false
+onSlots (onWhole (nextLive partition start)) = false
+onSlots (onWhole (erase partition)) = false
+onSlots (onWhole (slotFind partition product)) = true
+onSlots (onWhole (slotList partition start)) = true
+onSlots (onPages (claim partition one other)) = true
+
 -- "Any bytes at all may be handed in as an image, a page or a number": each field is about every image and every call, and no
 -- public call has a `requires`.
 -- "Every public call ends, reads and writes only inside what it was lent, and tests its own input": that it ends and stays
 -- inside, the toolchain proves of each function. Whatever is handed in, there is an answer (`answered`; which one, `Answered` says),
 -- and the image is no longer and no shorter (`same-length`). What the tests let pass is sound: `Meanings.refused-not`.
 -- "A refusal gives the number in document 01's table, and the image and every other buffer stay byte for byte as they came in":
--- `in-table` and `refusal-keeps`; which number it is, `Meanings` and demand 2 say. For cards card_model's Theorems have the same:
+-- `in-table`, `slots-in-table` and `refusal-keeps`; which number it is, `Meanings`, demand 2 and, of slot calls, `SlotRules` say. For cards card_model's Theorems have the same:
 -- `refused-exactly`, `refused-everywhere`, `refused-unchanged`.
 pub record Demand1 : Type 0 where
   pub answered : (image : List ℕ) (c : Call) → (image′ : List ℕ) × (answer : Reply) × Answered image c image′ answer
-  -- 0 to 9 are the table's numbers for a partition
-  pub in-table : (image : List ℕ) (c : Call) → codeOf image c ≤ 9
+  -- 0 to 9 are the table's numbers for a partition, 40 to 43 those that document 02, order 4, adds for slots
+  pub in-table : (image : List ℕ) (c : Call) → onSlots c ≡ false → codeOf image c ≤ 9
+  pub slots-in-table : (image : List ℕ) (c : Call) → onSlots c ≡ true → (codeOf image c ≤ 9) ⊎ ((40 ≤ codeOf image c) × (codeOf image c ≤ 43))
   -- it hands nothing back either
   pub refusal-keeps : (image : List ℕ) (c : Call) (image′ : List ℕ) (answer : Reply) → Answered image c image′ answer
       → answer .code ≢ 0 → (image′ ≡ image) × (answer .buffers ≡ buffersOf c) × (answer .values ≡ [])
@@ -207,19 +223,38 @@ pub record SaveCodes (image : List ℕ) (n : ℕ) (expected page : List ℕ) (co
 abbrev pub namedBy : Call → ℕ
 namedBy (onPage (read partition n buffer)) = partition
 namedBy (onPage (save partition n expected page)) = partition
+namedBy (onPage (slotRead partition slot block buffer)) = partition
+namedBy (onPage (slotSave partition slot block expected page)) = partition
 namedBy (onWhole (check partition)) = partition
 namedBy (onWhole (report partition)) = partition
 namedBy (onWhole (nextLive partition start)) = partition
 namedBy (onWhole (erase partition)) = partition
+namedBy (onWhole (slotFind partition product)) = partition
+namedBy (onWhole (slotList partition start)) = partition
+namedBy (onPages (claim partition one other)) = partition
 
 -- The calls that write nothing but their buffer.
 abbrev pub ReadOnly : Call → Type 0
 ReadOnly (onPage (read partition n buffer)) = Unit {0}
 ReadOnly (onPage (save partition n expected page)) = ⊥
+ReadOnly (onPage (slotRead partition slot block buffer)) = Unit {0}
+ReadOnly (onPage (slotSave partition slot block expected page)) = ⊥
 ReadOnly (onWhole (check partition)) = Unit {0}
 ReadOnly (onWhole (report partition)) = Unit {0}
 ReadOnly (onWhole (nextLive partition start)) = Unit {0}
 ReadOnly (onWhole (erase partition)) = ⊥
+ReadOnly (onWhole (slotFind partition product)) = Unit {0}
+ReadOnly (onWhole (slotList partition start)) = Unit {0}
+ReadOnly (onPages (claim partition one other)) = ⊥
+
+-- The calls that fill a buffer.
+abbrev pub fillsBuffer : Call → Bool
+fillsBuffer (onPage (read partition n buffer)) = true
+fillsBuffer (onPage (save partition n expected page)) = false
+fillsBuffer (onPage (slotRead partition slot block buffer)) = true
+fillsBuffer (onPage (slotSave partition slot block expected page)) = false
+fillsBuffer (onWhole w) = false
+fillsBuffer (onPages c) = false
 
 -- An accepted save that left image′.
 abbrev pub SaveDone : List ℕ → ℕ → List ℕ → List ℕ → Type 0
@@ -229,7 +264,8 @@ SaveDone image n page image′ =
 
 pub record Demand2 : Type 0 where
   -- "1 to 5" come before all others; a sound partition named rightly is refused none of them
-  pub refused-first : (image : List ℕ) (c : Call) → refusal image (namedBy c) ≢ 0 → codeOf image c ≡ refusal image (namedBy c)
+  pub refused-first : (image : List ℕ) (c : Call) → onSlots c ≡ false → refusal image (namedBy c) ≢ 0 → codeOf image c ≡ refusal image (namedBy c)
+  pub slots-refused-first : (image : List ℕ) (c : Call) → onSlots c ≡ true → slotRefusal image (namedBy c) ≢ 0 → codeOf image c ≡ slotRefusal image (namedBy c)
   pub whole-accepted : (image : List ℕ) → Sound image
       → (codeOf image (onWhole (check (headerNumber image))) ≡ 0)
       × (codeOf image (onWhole (report (headerNumber image))) ≡ 0)
@@ -240,6 +276,23 @@ pub record Demand2 : Type 0 where
   pub save-codes : (image : List ℕ) (partition n : ℕ) (expected page : List ℕ) → refusal image partition ≡ 0
       → SaveCodes image n expected page (codeOf image (onPage (save partition n expected page)))
   pub read-only-keeps : (image : List ℕ) (c : Call) (image′ : List ℕ) (answer : Reply) → ReadOnly c → Answered image c image′ answer → image′ ≡ image
+  pub buffers-kept : (image : List ℕ) (c : Call) (image′ : List ℕ) (answer : Reply) → fillsBuffer c ≡ false → Answered image c image′ answer
+      → answer .buffers ≡ buffersOf c
+  -- the buffers of calls that fill none: as they came in
+  pub save-buffers : (image : List ℕ) (partition n : ℕ) (expected page image′ : List ℕ) (answer : Reply)
+      → Answered image (onPage (save partition n expected page)) image′ answer → answer .buffers ≡ expected ∷ page ∷ []
+  pub slot-save-buffers : (image : List ℕ) (partition slot block : ℕ) (expected page image′ : List ℕ) (answer : Reply)
+      → Answered image (onPage (slotSave partition slot block expected page)) image′ answer → answer .buffers ≡ expected ∷ page ∷ []
+  pub find-buffers : (image : List ℕ) (partition : ℕ) (product image′ : List ℕ) (answer : Reply)
+      → Answered image (onWhole (slotFind partition product)) image′ answer → answer .buffers ≡ product ∷ []
+  pub claim-buffers : (image : List ℕ) (partition : ℕ) (one other image′ : List ℕ) (answer : Reply)
+      → Answered image (onPages (claim partition one other)) image′ answer → answer .buffers ≡ one ∷ other ∷ []
+  -- only a report, a next-live and the calls that give a slot hand values back
+  pub page-values : (image : List ℕ) (p : PageCall) (image′ : List ℕ) (answer : Reply) → Answered image (onPage p) image′ answer → answer .values ≡ []
+  pub check-values : (image : List ℕ) (partition : ℕ) (image′ : List ℕ) (answer : Reply)
+      → Answered image (onWhole (check partition)) image′ answer → answer .values ≡ []
+  pub erase-values : (image : List ℕ) (partition : ℕ) (image′ : List ℕ) (answer : Reply)
+      → Answered image (onWhole (erase partition)) image′ answer → answer .values ≡ []
   pub report-gives : (image : List ℕ) (partition : ℕ) (image′ : List ℕ) (answer : Reply)
       → Answered image (onWhole (report partition)) image′ answer → answer .code ≡ 0
       → answer .values ≡ version image ∷ capacity (length image) ∷ used image ∷ live image ∷ []
@@ -271,31 +324,112 @@ pub record Demand2 : Type 0 where
 
 -- ---- demand 3
 
--- A run against the page store fed with the calls on owned numbers.
+-- What the premises on runs mean. The header blocks of a slot are 24 and 25 + 4 * slot, its data blocks 26 and 27 + 4 * slot.
+abbrev pub HeaderOwned : (ℕ → Bool) → ℕ → Type 0
+HeaderOwned owned slot = (owned (24 + 4 * slot) ≡ true) × (owned (25 + 4 * slot) ≡ true)
+
+-- "a slot call on our block may stand in a list only where both its header blocks are ours"
+abbrev pub SlotMayStand : (ℕ → Bool) → ℕ → ℕ → Type 0
+SlotMayStand owned slot block = slot ≤ 99 → block ≤ 1 → owned (26 + 4 * slot + block) ≡ true → HeaderOwned owned slot
+
+-- A slot call is on owned numbers where its header blocks are, and the data block that it names.
+abbrev pub SlotOwned : (ℕ → Bool) → ℕ → ℕ → Type 0
+SlotOwned owned slot block = HeaderOwned owned slot × (slot ≤ 99 → block ≤ 1 → owned (26 + 4 * slot + block) ≡ true)
+
+-- The call is one of these.
+abbrev pub OneOf : PageCall → List PageCall → Type 0
+OneOf p [] = ⊥
+OneOf p (q ∷ qs) = (p ≡ q) ⊎ OneOf p qs
+
+pub record PremisesMean (owned : ℕ → Bool) : Type 0 where
+  -- every call may stand in a run but a slot read or save on an owned block with a foreign header
+  pub none-stand : MayStand owned []
+  pub more-stand : (s : Step) (steps : List Step) → callStands owned (s .made) ≡ true → MayStand owned steps → MayStand owned (s ∷ steps)
+  pub read-stands : (partition n : ℕ) (buffer : List ℕ) → callStands owned (onPage (read partition n buffer)) ≡ true
+  pub save-stands : (partition n : ℕ) (expected page : List ℕ) → callStands owned (onPage (save partition n expected page)) ≡ true
+  pub slot-read-stands : (partition slot block : ℕ) (buffer : List ℕ)
+      → (callStands owned (onPage (slotRead partition slot block buffer)) ≡ true) ↔ SlotMayStand owned slot block
+  pub slot-save-stands : (partition slot block : ℕ) (expected page : List ℕ)
+      → (callStands owned (onPage (slotSave partition slot block expected page)) ≡ true) ↔ SlotMayStand owned slot block
+  pub whole-stands : (w : WholeCall) → callStands owned (onWhole w) ≡ true
+  pub compound-stands : (c : CompoundCall) → callStands owned (onPages c) ≡ true
+  -- "A call is on ours when it is a read or a save whose logical number is in the set"
+  pub read-owned : (partition n : ℕ) (buffer : List ℕ) → (onOwned owned (read partition n buffer) ≡ true) ↔ (owned n ≡ true)
+  pub save-owned : (partition n : ℕ) (expected page : List ℕ) → (onOwned owned (save partition n expected page) ≡ true) ↔ (owned n ≡ true)
+  pub slot-read-owned : (partition slot block : ℕ) (buffer : List ℕ)
+      → (onOwned owned (slotRead partition slot block buffer) ≡ true) ↔ SlotOwned owned slot block
+  pub slot-save-owned : (partition slot block : ℕ) (expected page : List ℕ)
+      → (onOwned owned (slotSave partition slot block expected page) ≡ true) ↔ SlotOwned owned slot block
+  -- what may not stand between: saves, those of a slot where they name a data block
+  pub read-between : (partition n : ℕ) (buffer : List ℕ) → isSave (read partition n buffer) ≡ false
+  pub slot-read-between : (partition slot block : ℕ) (buffer : List ℕ) → isSave (slotRead partition slot block buffer) ≡ false
+  pub save-not-between : (partition n : ℕ) (expected page : List ℕ) → isSave (save partition n expected page) ≡ true
+  pub slot-save-not-between : (partition slot block : ℕ) (expected page : List ℕ)
+      → (isSave (slotSave partition slot block expected page) ≡ true) ↔ ((slot ≤ 99) × (block ≤ 1))
+  -- what a step counts as: a page call itself, a call on the whole partition nothing ("find and list count as listings"), a claim its
+  -- saves (`ClaimCounts`); of these the calls on owned numbers, a page call with the answer that it got, done or refused
+  pub page-itself : (image : List ℕ) (p : PageCall) → countsAs image (onPage p) ≡ p ∷ []
+  pub whole-nothing : (image : List ℕ) (w : WholeCall) → countsAs image (onWhole w) ≡ []
+  pub step-counts : (image : List ℕ) (s : Step) → callsOf (ownedOf owned image s) ≡ keep (onOwned owned) (countsAs image (s .made))
+  pub page-counts : (image : List ℕ) (p : PageCall) (answer : Reply) (image′ : List ℕ) → onOwned owned p ≡ true
+      → ownedOf owned image (record { made = onPage p; answer = answer; image′ = image′ }) ≡ record { call = p; answer = answer } ∷ []
+  -- a run's, and those made in both of two runs, step by step
+  pub no-counts : (image : List ℕ) → ownedSteps owned image [] ≡ []
+  pub more-counts : (image : List ℕ) (s : Step) (steps : List Step) → ownedSteps owned image (s ∷ steps) ≡ ownedOf owned image s ++ ownedSteps owned (s .image′) steps
+  pub no-items : stepsOf [] ≡ []
+  pub both-item : (s : Step) (items : List Item) → stepsOf (both s ∷ items) ≡ s ∷ stepsOf items
+  pub between-item : (s : Step) (items : List Item) → stepsOf (between s ∷ items) ≡ s ∷ stepsOf items
+  pub none-in-both : (image : List ℕ) → stepsInBoth owned image [] ≡ []
+  pub more-in-both : (image : List ℕ) (s : Step) (items : List Item) → stepsInBoth owned image (both s ∷ items) ≡ ownedOf owned image s ++ stepsInBoth owned (s .image′) items
+  pub not-in-both : (image : List ℕ) (s : Step) (items : List Item) → stepsInBoth owned image (between s ∷ items) ≡ stepsInBoth owned (s .image′) items
+  -- any step may be marked as made in both; between may stand every step that counts as no save of an owned number
+  pub none-marked : (image : List ℕ) → WellMarked owned image []
+  pub both-marked : (image : List ℕ) (s : Step) (items : List Item) → WellMarked owned (s .image′) items → WellMarked owned image (both s ∷ items)
+  pub between-marked : (image : List ℕ) (s : Step) (items : List Item) → ((p : PageCall) → isSave p ≡ true → OneOf p (callsOf (ownedOf owned image s)) → ⊥)
+      → WellMarked owned (s .image′) items → WellMarked owned image (between s ∷ items)
+  -- calls alike
+  pub none-alike : SameButSeen [] []
+  pub same-alike : (x y : PageStep) (xs ys : List PageStep) → x .call ≡ y .call → SameButSeen xs ys → SameButSeen (x ∷ xs) (y ∷ ys)
+  pub done-alike : (x y : PageStep) (xs ys : List PageStep) (partition n : ℕ) (seen other page : List ℕ)
+      → x .call ≡ save partition n seen page → y .call ≡ save partition n other page → x .answer .code ≡ 0 → y .answer .code ≡ 0
+      → SameButSeen xs ys → SameButSeen (x ∷ xs) (y ∷ ys)
+
+-- A run against the page store fed with the calls on owned numbers that its steps count as.
 pub record RunsAsStore (owned : ℕ → Bool) (image : List ℕ) (steps : List Step) : Type 0 where
-  pub answers : ownedAnswers owned steps
-      ≡ storeReplies (length image) (headerNumber image) (ownedPages owned image) (ownedCalls owned steps)
+  pub answers : answersOf (ownedSteps owned image steps)
+      ≡ storeReplies (length image) (headerNumber image) (ownedPages owned image) (callsOf (ownedSteps owned image steps))
   pub pages : (n : ℕ) → owned n ≡ true → contents (final image steps) n
-      ≡ storeFinal (length image) (headerNumber image) (ownedPages owned image) (ownedCalls owned steps) n
+      ≡ storeFinal (length image) (headerNumber image) (ownedPages owned image) (callsOf (ownedSteps owned image steps)) n
   pub ends-sound : Sound (final image steps)
   pub same-length : length (final image steps) ≡ length image
   pub same-number : headerNumber (final image steps) ≡ headerNumber image
 
 -- Two runs with the same calls on owned numbers. What else they read of these, they too get from the store.
 pub record SameForOwned (owned : ℕ → Bool) (s t : List ℕ) (xs ys : List Item) : Type 0 where
-  pub answers : answersInBoth xs ≡ answersInBoth ys
+  pub answers : answersOf (stepsInBoth owned s xs) ≡ answersOf (stepsInBoth owned t ys)
   pub pages : (n : ℕ) → owned n ≡ true → contents (final s (stepsOf xs)) n ≡ contents (final t (stepsOf ys)) n
   pub one : RunsAsStore owned s (stepsOf xs)
   pub other : RunsAsStore owned t (stepsOf ys)
 
 pub record Demand3 : Type 0 where
+  pub premises-mean : (owned : ℕ → Bool) → PremisesMean owned
   pub runs-as-store : (owned : ℕ → Bool) (image : List ℕ) (steps : List Step)
-      → Sound image → Chain image steps → RunsAsStore owned image steps
+      → Sound image → Chain image steps → MayStand owned steps → RunsAsStore owned image steps
   pub two-runs : (owned : ℕ → Bool) (s t : List ℕ) (xs ys : List Item)
       → Sound s → Sound t → length s ≡ length t → headerNumber s ≡ headerNumber t
       → ((n : ℕ) → owned n ≡ true → contents s n ≡ contents t n)
-      → Chain s (stepsOf xs) → Chain t (stepsOf ys) → WellMarked owned xs → WellMarked owned ys → callsInBoth xs ≡ callsInBoth ys
+      → Chain s (stepsOf xs) → Chain t (stepsOf ys) → MayStand owned (stepsOf xs) → MayStand owned (stepsOf ys)
+      → WellMarked owned s xs → WellMarked owned t ys
+      → callsOf (stepsInBoth owned s xs) ≡ callsOf (stepsInBoth owned t ys)
       → SameForOwned owned s t xs ys
+  -- what saves that are done in both last saw need not be compared
+  pub seen-alike : (owned : ℕ → Bool) (s t : List ℕ) (xs ys : List Item)
+      → Sound s → Sound t → length s ≡ length t → headerNumber s ≡ headerNumber t
+      → ((n : ℕ) → owned n ≡ true → contents s n ≡ contents t n)
+      → Chain s (stepsOf xs) → Chain t (stepsOf ys) → MayStand owned (stepsOf xs) → MayStand owned (stepsOf ys)
+      → WellMarked owned s xs → WellMarked owned t ys
+      → SameButSeen (stepsInBoth owned s xs) (stepsInBoth owned t ys)
+      → callsOf (stepsInBoth owned s xs) ≡ callsOf (stepsInBoth owned t ys)
   pub never-refused : (image : List ℕ) (n : ℕ) (expected page image′ : List ℕ) (answer : Reply)
       → Sound image → n ≤ topNumber (length image) → length page ≡ 60 → expectedPage expected ≡ contents image n
       → Answered image (onPage (save (headerNumber image) n expected page)) image′ answer
@@ -316,11 +450,12 @@ pub record Witness (size partition : ℕ) (image : List ℕ) : Type 0 where
 
 pub record NotVacuous : Type 0 where
   pub three-sizes : (size : ℕ) → (legalSize size ≡ true) ↔ ((size ≡ 16384) ⊎ ((size ≡ 32768) ⊎ (size ≡ 65536)))
-  -- with nothing live, where a save appends, and with every number live, where it compacts
+  -- with nothing live, where a save appends, and with every number live, with a page of its own, where it compacts
   pub empty : (size partition : ℕ) → legalSize size ≡ true → partition < 256
       → (image : List ℕ) × Witness size partition image × (used image ≡ 0) × ((n : ℕ) → contents image n ≡ none) × LowestFreeBlank image 1
-  pub full : (size partition : ℕ) (page : List ℕ) → legalSize size ≡ true → partition < 256 → Bytes page → length page ≡ 60
+  pub full : (size partition : ℕ) (page : ℕ → List ℕ) → legalSize size ≡ true → partition < 256
+      → ((n : ℕ) → Bytes (page n)) → ((n : ℕ) → length (page n) ≡ 60)
       → (image : List ℕ) × Witness size partition image × (used image ≡ capacity size)
-      × ((n : ℕ) → n ≤ topNumber size → contents image n ≡ some page)
+      × ((n : ℕ) → n ≤ topNumber size → contents image n ≡ some (page n))
   -- any list of calls can be made, so every chain theorem has its chains
   pub chains : (image : List ℕ) (calls : List Call) → (steps : List Step) × (map (λ s. s .made) steps ≡ calls) × Chain image steps

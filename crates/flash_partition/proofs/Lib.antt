@@ -1,4 +1,5 @@
 pub mod PartLaws
 pub mod UsableLaws
 pub mod OpenLaws
+pub mod OpenedLaws
 pub mod SearchLaws

@@ -18,5 +18,9 @@ headerRefusal image partition = first (lengthRow image) (headerRows image partit
 unfoldable pub logOf : List ℕ → OpenedLog
 logOf image = record { m = record { size = length image }; used = used image }
 
+-- The refusal, or where that is 0 what is handed on.
+abbrev pub openedBy : ℕ → List ℕ → Opened
+openedBy refused image = cond (eqb refused 0) (Ready (logOf image)) (Refused refused)
+
 unfoldable pub openingOf : List ℕ → ℕ → Opened
-openingOf image partition = cond (eqb (refusal image partition) 0) (Ready (logOf image)) (Refused (refusal image partition))
+openingOf image partition = openedBy (refusal image partition) image

@@ -14,7 +14,7 @@ use Rattle.flash_model.specs.Partition.{headerNumber}
 use Rattle.flash_model.specs.Calls.{PageCall, Reply, after, Answered}
 use Rattle.flash_model.specs.Calls.{PageCall.read, PageCall.save, Call.onPage, Call.onWhole, WholeCall.erase}
 use Rattle.flash_model.specs.PageStore.{PageMap, ownedPages, samePage, storeCode, storeReply, storeAfter, storeReplies, storeFinal}
-use Rattle.flash_model.specs.Runs.{Step, Chain, final, ownedCalls, ownedAnswers}
+use Rattle.flash_model.specs.Runs.{Step, Chain, final, ownedSteps, callsOf, answersOf, MayStand}
 use Rattle.flash_model.proofs.RunLaws.{store-accepts, own-page, demand3}
 use Rattle.readback.specs.OwnPage.{OwnSave, OwnPageBack, imageBefore}
 
@@ -60,15 +60,15 @@ module _ (image : List ℕ) (partition n : ℕ) (expected page back : List ℕ) 
   unfolding storeAfter
   read-keeps kept = refl
 
-  pub own-page-back : (steps : List Step) → Chain image steps
-      → ownedCalls (eqb n) steps ≡ save partition n expected page ∷ read partition n back ∷ []
-      → (a b : Reply) (back′ : List ℕ) → ownedAnswers (eqb n) steps ≡ a ∷ b ∷ [] → b .buffers ≡ back′ ∷ []
+  pub own-page-back : (steps : List Step) → Chain image steps → MayStand (eqb n) steps
+      → callsOf (ownedSteps (eqb n) image steps) ≡ save partition n expected page ∷ read partition n back ∷ []
+      → (a b : Reply) (back′ : List ℕ) → answersOf (ownedSteps (eqb n) image steps) ≡ a ∷ b ∷ [] → b .buffers ≡ back′ ∷ []
       → OwnPageBack image n page (final image steps) (b .code) back′
   unfolding storeReplies storeFinal storeReply
-  own-page-back steps linked calls a b back′ answers buffers =
+  own-page-back steps linked stand calls a b back′ answers buffers =
       let kept = storeAfter (length image) (headerNumber image) pages saving in
-      let named : ownedCalls (eqb n) steps ≡ saving ∷ reading ∷ [] = calls ∙ ap (λ (p : ℕ). save p n expected page ∷ read p n back ∷ []) (own .names-it) in
-      let runs = demand3 .runs-as-store (eqb n) image steps (own .is-sound) linked in
+      let named : callsOf (ownedSteps (eqb n) image steps) ≡ saving ∷ reading ∷ [] = calls ∙ ap (λ (p : ℕ). save p n expected page ∷ read p n back ∷ []) (own .names-it) in
+      let runs = demand3 .runs-as-store (eqb n) image steps (own .is-sound) linked stand in
       let all : a ∷ b ∷ [] ≡ storeReplies (length image) (headerNumber image) pages (saving ∷ reading ∷ []) =
       sym answers ∙ runs .answers ∙ ap (storeReplies (length image) (headerNumber image) pages) named in
       let last : b ≡ storeReply (length image) (headerNumber image) kept reading = cc in

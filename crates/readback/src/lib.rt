@@ -8,8 +8,7 @@ use flash::report;
 use flash::save;
 ghost use mathlib.Core.List.{[], _∷_};
 ghost use mathlib.Core.Logic.{_≢_};
-ghost use Rattle.flash_model.specs.Calls.{Answered, Call.onPage, PageCall.read};
-ghost use Rattle.flash.specs.Answers.{codeAnswer};
+ghost use Rattle.flash_model.specs.Calls.{Answered, codeAnswer, Call.onPage, PageCall.read};
 ghost use Rattle.readback.specs.OwnPage.{OwnSave, OwnPageBack, imageBefore};
 
 // Saves a page; others check, save another number, count, look for the next live number and erase; then the number is read

@@ -1,7 +1,8 @@
 -- `check` meets its contract. Assumes nothing.
-use mathlib.Core.Path.{sym, _∙_}
+use mathlib.Core.Path.{refl, sym, _∙_}
 use Rattle.flash_model.specs.Calls.{Call.onWhole, WholeCall.check}
-use Rattle.flash.proofs.AnswerLaws.{past-opening, refused-by, check-done}
+use Rattle.flash_partition.proofs.OpenedLaws.{past-opening}
+use Rattle.flash.proofs.AnswerLaws.{refused-by, check-done}
 use borrow.Author.Needs.{needs}
 use Rattle.flash.proofs.check.Statement.{statement}
 use Rattle.flash.proofs.check.Tie as tie
@@ -13,7 +14,7 @@ returns : tie.Need-returns
 returns c =
     let o = c .before .before .before in
     let a = start o in
-    refused-by (a .args .image .now) (onWhole (check (a .args .partition))) _ (sym (o .«open» .ensures) ∙ c .before .code .given .1)
+    refused-by (a .args .image .now) (onWhole (check (a .args .partition))) _ refl (sym (o .«open» .ensures) ∙ c .before .code .given .1)
 
 returns-2 : tie.Need-returns-2
 returns-2 c =

@@ -4,10 +4,10 @@ use mathlib.Core.Path.{refl, sym}
 use mathlib.Core.List.{List, [], _∷_}
 use Prim.Native.Nat.{ℕ}
 use borrow.Author.Tests.{eq-eqb, ne-eqb}
-use Rattle.flash_model.specs.Calls.{Call, Reply}
+use Rattle.flash_model.specs.Calls.{Call, Reply, codeAnswer}
 use Rattle.flash_model.specs.Calls.{Call.onPage, Call.onWhole, PageCall.read, PageCall.save, WholeCall.check, WholeCall.report, WholeCall.nextLive, WholeCall.erase}
 use Rattle.flash_model.specs.Runs.{Step, Chain}
-use Rattle.flash.specs.Answers.{codeAnswer, reportAnswer, nextAnswer}
+use Rattle.flash.specs.Answers.{reportAnswer, nextAnswer}
 use Rattle.readback.proofs.OwnPageLaws.{final-read, own-page-back}
 use borrow.Author.Needs.{needs}
 use Rattle.readback.proofs.save_and_read_back.Statement.{statement}
@@ -64,7 +64,7 @@ returns c =
       final-read _ p n x page (a .other) (a .others .now) (a .back .now) i1 i2 i3 _ _ _ _ (s .save .ensures) (o .save2 .ensures) (e .erase .ensures) (r .read .ensures),
       λ own apart.
           let theirs = ne-eqb n (a .other) (λ q. apart (sym q)) in
-          own-page-back _ p n x page (a .back .now) own steps linked (rw (mine, theirs)) first last left (rw (mine, theirs)) refl,
+          own-page-back _ p n x page (a .back .now) own steps linked (refl, (refl, (refl, (refl, (refl, (refl, (refl, tt))))))) (rw (mine, theirs)) first last left (rw (mine, theirs)) refl,
     )
 
 pub save-and-read-back-spec : {M : Type 1} → statement M
