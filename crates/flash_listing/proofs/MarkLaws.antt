@@ -86,6 +86,9 @@ module _ {marks image : List ℕ} {size end k : ℕ} (low : 1 ≤ k) (f : PassAt
     unmarked = λ n h z. f .unmarked n h z ∙ held-next n (none-new n h z);
   }
 
+  pub passed-wrong : rightChecksum (blockAt image k) ≡ false → PassAt marks image size end (k - 1)
+  passed-wrong wrong = passed (λ n h z. rw wrong (and-false (eqb b n)))
+
   pub passed-at : isNew end (blockAt image k) marks ≡ false → PassAt marks image size end (k - 1)
   unfolding isNew
   passed-at e = passed (λ n h free. rw (ne-eqb b n (λ q. true≢false (sym (new n h free q) ∙ e))))
@@ -110,7 +113,7 @@ module _ {marks image : List ℕ} {size end k : ℕ} (low : 1 ≤ k) (f : PassAt
     free : getD marks b 0 ≡ 0
     free = new-free end (blockAt image k) marks e
 
-    held-here : rightChecksum (blockAt image k) ≡ true → holder image b ≡ some k
+    pub held-here : rightChecksum (blockAt image k) ≡ true → holder image b ≡ some k
     held-here right = f .unmarked b below free ∙ highest-here (copyAt image b) k low (rw (eq-eqb b b refl, right))
 
     -- with a wrong checksum the 0 stored changes nothing
@@ -118,30 +121,29 @@ module _ {marks image : List ℕ} {size end k : ℕ} (low : 1 ≤ k) (f : PassAt
     unfolding mark
     same-marks wrong = rw wrong (sym (ap (set marks b) (sym free) ∙ set-getD marks b 0))
 
-    stored : rightChecksum (blockAt image k) ≡ true → PassAt (set marks b 1) image size end (k - 1)
-    stored right = record {
+    -- any mark but 0
+    pub stored : (v : ℕ) → 1 ≤ v → rightChecksum (blockAt image k) ≡ true → PassAt (set marks b v) image size end (k - 1)
+    stored v some-mark right = record {
       has-measures = f .has-measures;
       end-is = f .end-is;
-      long = omega (arith, f .long, length-set marks b 1);
+      long = omega (arith, f .long, length-set marks b v);
       not-past-end = omega (arith, f .not-past-end);
       unmarked = λ n h z. f .unmarked n h (free-before n z) ∙ held-next n (rw (ne-eqb b n (λ q. marked n (sym q) z)));
     }
       where
-        marked : (n : ℕ) → n ≡ b → getD (set marks b 1) n 0 ≡ 0 → ⊥
-        marked n q z = omega (arith, rw q at z, getD-set-same marks b 1 0 (omega (arith, below, f .long)))
+        marked : (n : ℕ) → n ≡ b → getD (set marks b v) n 0 ≡ 0 → ⊥
+        marked n q z = omega (arith, rw q at z, getD-set-same marks b v 0 (omega (arith, below, f .long)), some-mark)
 
-        free-before : (n : ℕ) → getD (set marks b 1) n 0 ≡ 0 → getD marks n 0 ≡ 0
-        free-before n z = sym (getD-set-other marks b n 1 0 (λ q. marked n q z)) ∙ z
+        free-before : (n : ℕ) → getD (set marks b v) n 0 ≡ 0 → getD marks n 0 ≡ 0
+        free-before n z = sym (getD-set-other marks b n v 0 (λ q. marked n q z)) ∙ z
 
     pub marked-at : PassAt (set marks b (mark (blockAt image k))) image size end (k - 1)
     unfolding mark
     marked-at = go (rightChecksum (blockAt image k)) refl
       where
         go : (t : Bool) → rightChecksum (blockAt image k) ≡ t → PassAt (set marks b (mark (blockAt image k))) image size end (k - 1)
-        go true right = rw right (stored right)
-        go false wrong =
-            subst (λ (a : List ℕ). PassAt a image size end (k - 1)) (same-marks wrong)
-            (passed (λ n h z. rw wrong (and-false (eqb b n))))
+        go true right = rw right (stored 1 (omega arith) right)
+        go false wrong = subst (λ (a : List ℕ). PassAt a image size end (k - 1)) (same-marks wrong) (passed-wrong wrong)
 
     pub marks-added : MarksAdded image marks (set marks b (mark (blockAt image k)))
     unfolding mark

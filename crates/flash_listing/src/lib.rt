@@ -1,4 +1,6 @@
 // One pass over the used blocks for whatever looks at all numbers.
+pub mod places;
+
 use flash_measures::Measures;
 use flash_measures::NUMBERS;
 use flash_partition::blocks::block_at;

@@ -38,7 +38,7 @@ pub fn read_page(image: &[u8], log: OpenedLog, number: usize, page: &mut [u8]) -
 }
 
 // Whether the page isn't 60 bytes long, or what is expected neither 0 nor 60.
-fn wrong_lengths(expected: &[u8], page: &[u8]) -> bool
+pub fn wrong_lengths(expected: &[u8], page: &[u8]) -> bool
     ensures { λ r. ⌜ r ≡ wrongLengths (now (expected .entry)) (now (page .entry)) ⌝ }
 {
     if page.len() != 60 {
