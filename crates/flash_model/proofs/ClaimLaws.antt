@@ -19,6 +19,7 @@ use Rattle.flash_model.specs.Calls.{PageCall, Call, Reply, claimRows, co
 use Rattle.flash_model.specs.Calls.{PageCall.save, CompoundCall.claim, Call.onPage, Call.onPages}
 use Rattle.flash_model.specs.PageStore.{expectedPage}
 use Rattle.flash_model.specs.Runs.{countsAs, answeredPages}
+use Rattle.flash_model.specs.Demands.{Keeps}
 use Rattle.flash_model.specs.SlotDemands.{AllDone}
 use Rattle.flash_model.proofs.MeasureLaws.{legal-le}
 use Rattle.flash_model.proofs.SoundLaws.{unrefused-sound, header-number}
@@ -104,13 +105,15 @@ module _ (image : List ℕ) (partition : ℕ) (one other : List ℕ) (slot : ℕ
   abbrev pub secondSave : PageCall
   secondSave = save partition (slotNumber slot 1) (pageBytes (contents image (slotNumber slot 1))) other
 
-  -- its two saves
-  pub record BothDone : Type 0 where
+  -- the first save, and what it leaves for the second
+  pub record FirstDone : Type 0 where
     pub first-done : codeOf image (onPage firstSave) ≡ 0
-    pub second-done : codeOf (afterPage image firstSave) (onPage secondSave) ≡ 0
+    pub unrefused-then : refusal (afterPage image firstSave) partition ≡ 0
+    pub same-length : length (afterPage image firstSave) ≡ length image
+    pub second-stands : contents (afterPage image firstSave) (slotNumber slot 1) ≡ contents image (slotNumber slot 1)
 
-  pub both-done : AcceptedClaim image partition one other → slot ≤ 99 → BothDone
-  both-done r most = record { first-done = first-is; second-done = second-is }
+  pub first-saved : AcceptedClaim image partition one other → slot ≤ 99 → FirstDone
+  first-saved r most = record { first-done = first-is; unrefused-then = still; same-length = kept .same-length; second-stands = same-page }
     where
       s : Sound image
       s = unrefused-sound image partition (r .is-open .unrefused-1-5)
@@ -129,15 +132,30 @@ module _ (image : List ℕ) (partition : ℕ) (one other : List ℕ) (slot : ℕ
           ∙ rows-contents image s partition (slotNumber slot 0) one (save-rows image partition (slotNumber slot 0) (pageBytes (contents image (slotNumber slot 0))) one first-is) (slotNumber slot 1)
           ∙ rw (ne-eqb (slotNumber slot 0) (slotNumber slot 1) apart)
 
+      kept : Keeps image (afterPage image firstSave)
+      kept = page-keeps image s firstSave
+
+      still : refusal (afterPage image firstSave) partition ≡ 0
+      still =
+          let h = header-number image (afterPage image firstSave) (kept .same-header) in
+          subst (λ (q : ℕ). refusal (afterPage image firstSave) q ≡ 0) (h ∙ unrefused image partition (r .is-open .unrefused-1-5) .1) (kept .still-sound)
+
+  -- both
+  pub record BothDone : Type 0 where
+    pub first-done : codeOf image (onPage firstSave) ≡ 0
+    pub second-done : codeOf (afterPage image firstSave) (onPage secondSave) ≡ 0
+
+  pub both-done : AcceptedClaim image partition one other → slot ≤ 99 → BothDone
+  both-done r most = record { first-done = f .first-done; second-done = second-is }
+    where
+      f : FirstDone
+      f = first-saved r most
+
       second-is : codeOf (afterPage image firstSave) (onPage secondSave) ≡ 0
       second-is =
-          let k = page-keeps image s firstSave in
-          let h = header-number image (afterPage image firstSave) (k .same-header) in
-          let r′ : refusal (afterPage image firstSave) partition ≡ 0 =
-          subst (λ (q : ℕ). refusal (afterPage image firstSave) q ≡ 0) (h ∙ unrefused image partition (r .is-open .unrefused-1-5) .1) (k .still-sound) in
-          subst (λ (o : Option (List ℕ)). codeOf (afterPage image firstSave) (onPage (save partition (slotNumber slot 1) (pageBytes o) other)) ≡ 0) same-page
-          (seen-save (afterPage image firstSave) partition (slotNumber slot 1) other r′
-          (slot-legal (length (afterPage image firstSave)) slot 1 (k .same-length ∙ r .is-open .size-is) most (omega arith)) (r .other-60))
+          subst (λ (o : Option (List ℕ)). codeOf (afterPage image firstSave) (onPage (save partition (slotNumber slot 1) (pageBytes o) other)) ≡ 0) (f .second-stands)
+          (seen-save (afterPage image firstSave) partition (slotNumber slot 1) other (f .unrefused-then)
+          (slot-legal (length (afterPage image firstSave)) slot 1 (f .same-length ∙ r .is-open .size-is) most (omega arith)) (r .other-60))
 
 -- the saves that a claim counts as are done
 pub claim-done : (image : List ℕ) (partition : ℕ) (one other : List ℕ) → AllDone (answeredPages image (countsAs image (onPages (claim partition one other))))

@@ -1,0 +1,3 @@
+pub mod SlotUsable
+pub mod Headers
+pub mod SlotAnswers
