@@ -18,7 +18,7 @@ use Rattle.checksum.specs.Crc.{shift, shifts, takeByte, crcFrom, checksu
 use Rattle.checksum.specs.Polynomial.{rem, remLittle}
 use Rattle.checksum.proofs.XorLaws.{xor-assoc, xor-ones}
 use Rattle.checksum.proofs.XorSolver.{var, both, solve}
-use Rattle.checksum.proofs.ShiftLaws.{shifts-lt, shifts-xor, shifts-add, shifts-swap}
+use Rattle.checksum.proofs.ShiftLaws.{shifts-lt, shifts-xor, shifts-add, shifts-swap, shifts-zero}
 use Rattle.checksum.proofs.RemainderLaws.{rem-lt, rem-xor, rem-cat, rem-shl, rem-small}
 use Rattle.checksum.proofs.LittleLaws.{little-lt, little-more}
 
@@ -156,6 +156,23 @@ module _ (f : ℕ) (small : f < 65536) where
       (shifts-xor 16 (shifts 48 x) (remLittle 6 w) (shifts-lt 48 x h) (little-lt 6 w)
       ∙ ap₂ bitXor (sym (shifts-add 16 48 x)) (sym (little-more 6 2 w (word-below 6 known))) ∙ sym e)
       (sym (shifts-add 16 (48 + k) f) ∙ ap (λ (n : ℕ). shifts n f) width)
+
+-- the same with nothing in front
+pub behind-nothing : (k x : ℕ) → behind 0 k x ≡ x
+unfolding behind
+behind-nothing k x = ap (bitXor x) (shifts-zero k) ∙ xor-zero-r x
+
+pub crc-taken : (n : ℕ) {s : List ℕ} {at w : ℕ} (x t : ℕ) → x < 65536 → t ≡ bitXor (shifts (n * 8) x) (remLittle n w) → Little n s at w → at + n ≤ length s
+    → crcFrom (shifts 16 x) (drop at s) ≡ crcFrom (shifts 16 t) (drop (at + n) s)
+crc-taken n {s} {at} x t h e known long =
+    ap (λ (y : ℕ). crcFrom (shifts 16 y) (drop at s)) (sym (behind-nothing 0 x))
+    ∙ crc-behind 0 (lit< tt) n 0 x t h e known long
+    ∙ ap (λ (y : ℕ). crcFrom (shifts 16 y) (drop (at + n) s)) (behind-nothing (n * 8 + 0) t)
+
+pub crc-taken-last : {s : List ℕ} {at w : ℕ} (x t : ℕ) → x < 65536 → t ≡ bitXor (shifts 64 x) (remLittle 8 w) → Little 6 s at w → length s ≡ at + 6
+    → crcFrom (shifts 16 x) (drop at s) ≡ t
+crc-taken-last {s} {at} x t h e known end =
+    ap (λ (y : ℕ). crcFrom (shifts 16 y) (drop at s)) (sym (behind-nothing 0 x)) ∙ crc-last 0 (lit< tt) 0 x t h e known end ∙ behind-nothing 64 t
 
 -- 6642 leaves FFFF behind 512 digits, which the inversion at the end takes off
 pub end-block : (s : List ℕ) (x : ℕ) → x < 65536 → crcFrom 65535 s ≡ behind 6642 512 x → x ≡ checksumOf s

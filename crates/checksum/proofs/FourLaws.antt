@@ -18,7 +18,7 @@ use Rattle.checksum.proofs.ShiftLaws.{shifts-lt, shifts-xor, shifts-add
 use Rattle.checksum.proofs.RemainderLaws.{rem-xor}
 use Rattle.checksum.proofs.LittleLaws.{little-lt, little-xor, little-shift}
 use Rattle.checksum.proofs.RuleLaws.{rule-128, rule-256, sum-shifts}
-use Rattle.checksum.proofs.CrcLaws.{behind, crc-behind, start-little}
+use Rattle.checksum.proofs.CrcLaws.{behind, crc-behind, behind-nothing, start-little}
 
 -- a word behind x
 behind-lt : (x w : ℕ) → x < 65536 → bitXor (shifts 64 x) (remLittle 8 w) < 65536
@@ -156,13 +156,22 @@ four-first s a b c d wa wb wc wd long =
     ∙ crc-behind 33999 (lit< tt) 8 128 (remTwo a b) (remThree a b c) (two-lt a b) refl wc (omega arith)
     ∙ crc-behind 33999 (lit< tt) 8 192 (remThree a b c) (remFour a b c d) (three-lt a b c) refl wd long
 
--- 18825 in the first word makes 6642 of the start
+-- k in the first word makes f of the start
+module _ (k f : ℕ) (makes : shifts 256 33999 ≡ bitXor (up 192 k) (shifts 256 f)) where
+  four-begun : (a b c d : ℕ) → behind 33999 256 (remFour a b c d) ≡ behind f 256 (remFour (bitXor a k) b c d)
+  unfolding behind
+  four-begun a b c d =
+      ap₂ bitXor (four-sum a b c d) makes
+      ∙ solve (up 192 a ∷ up 128 b ∷ up 64 c ∷ remLittle 8 d ∷ up 192 k ∷ shifts 256 f ∷ [])
+      (both (both (both (both (var 0) (var 1)) (var 2)) (var 3)) (both (var 4) (var 5)))
+      (both (both (both (both (both (var 0) (var 4)) (var 1)) (var 2)) (var 3)) (var 5)) refl
+      ∙ ap (λ (x : ℕ). bitXor (bitXor (bitXor (bitXor x (up 128 b)) (up 64 c)) (remLittle 8 d)) (shifts 256 f)) (sym (up-xor 192 a k))
+      ∙ ap (λ (x : ℕ). bitXor x (shifts 256 f)) (sym (four-sum (bitXor a k) b c d))
+
+-- 18825 makes 6642 of it
 pub four-started : (a b c d : ℕ) → behind 33999 256 (remFour a b c d) ≡ behind 6642 256 (remFour (bitXor a 18825) b c d)
-unfolding behind shifts shift remLittle
-four-started a b c d =
-    ap (λ (x : ℕ). bitXor x 10821) (four-sum a b c d)
-    ∙ solve (up 192 a ∷ up 128 b ∷ up 64 c ∷ remLittle 8 d ∷ up 192 18825 ∷ shifts 256 6642 ∷ [])
-    (both (both (both (both (var 0) (var 1)) (var 2)) (var 3)) (both (var 4) (var 5)))
-    (both (both (both (both (both (var 0) (var 4)) (var 1)) (var 2)) (var 3)) (var 5)) refl
-    ∙ ap (λ (x : ℕ). bitXor (bitXor (bitXor (bitXor x (up 128 b)) (up 64 c)) (remLittle 8 d)) (shifts 256 6642)) (sym (up-xor 192 a 18825))
-    ∙ ap (λ (x : ℕ). bitXor x (shifts 256 6642)) (sym (four-sum (bitXor a 18825) b c d))
+four-started = four-begun 18825 6642 (unfold shifts shift remLittle in refl)
+
+-- FFFF leaves nothing of it
+pub four-cleared : (a b c d : ℕ) → behind 33999 256 (remFour a b c d) ≡ remFour (bitXor a 65535) b c d
+four-cleared a b c d = four-begun 65535 0 (unfold shifts shift remLittle in refl) a b c d ∙ behind-nothing 256 (remFour (bitXor a 65535) b c d)

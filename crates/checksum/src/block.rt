@@ -12,11 +12,11 @@ ghost use Rattle.checksum.specs.Crc.{shifts, checksumOf};
 ghost use Rattle.checksum.specs.Polynomial.{rem, remLittle, remTwo, remThree, remFour};
 
 // A polynomial of 256 digits, the highest in a.
-struct Four {
-    a: u64,
-    b: u64,
-    c: u64,
-    d: u64,
+pub struct Four {
+    pub a: u64,
+    pub b: u64,
+    pub c: u64,
+    pub d: u64,
 }
 
 // A polynomial of 128 digits, the higher ones in a.
@@ -26,7 +26,7 @@ struct Two {
 }
 
 // Four words that take a fifth behind them, folded into four.
-fn take_word(f: Four, e: u64) -> Four
+pub fn take_word(f: Four, e: u64) -> Four
     ensures { λ r. ⌜ remFour (r .a) (r .b) (r .c) (r .d) ≡ bitXor (shifts 64 (remFour (f .a) (f .b) (f .c) (f .d))) (remLittle 8 e) ⌝ }
 {
     Four {
@@ -63,7 +63,7 @@ fn swap_bytes(x: u64) -> u64
 }
 
 // The remainder of four words.
-fn remainder_of_four(f: Four) -> u16
+pub fn remainder_of_four(f: Four) -> u16
     ensures { λ r. ⌜ r ≡ remFour (f .a) (f .b) (f .c) (f .d) ⌝ }
 {
     let t = fold128(f.a, f.b, f.c);

@@ -3,12 +3,14 @@
 mod block;
 mod bytewise;
 mod folding;
+mod runs;
 
 use crate::block::of_block;
 use crate::bytewise::take_bytes_from;
 use crate::folding::fold16;
 use crate::folding::fold64;
 use crate::folding::remainder;
+use crate::runs::of_run;
 use words::loads::big8;
 ghost use mathlib.Core.Path.{_≡_};
 ghost use Rattle.checksum.specs.Crc.{crcFrom, checksumOf};
@@ -26,13 +28,16 @@ fn of_words(bytes: &[u8]) -> u16
     take_bytes_from(bytes, i, fold16(remainder(a)))
 }
 
-// The checksum of these bytes; that of a run of 62, which a block of an image has, by the quicker way. For a block of an image,
-// lend the part that begins there.
+// The checksum of these bytes; that of a run of 62, which a block of an image has, and of one that ends as a slot's 110 do, by quicker
+// ways. For a block of an image, lend the part that begins there.
 pub fn checksum(bytes: &[u8]) -> u16
     ensures { λ r. ⌜ r ≡ checksumOf (now (bytes .entry)) ⌝ }
 {
     if bytes.len() == 62 {
         return of_block(bytes);
+    }
+    if (38 <= bytes.len()) & (bytes.len() % 8 == 6) {
+        return !of_run(bytes);
     }
     !of_words(bytes)
 }
