@@ -1,22 +1,22 @@
 -- The places of numbers as used blocks are passed, the highest first. A place is a mark: 0 where there is none. Assumes nothing.
 use Prim.Native.Nat.{ℕ, zero, suc, _-_, _≤_, _<_}
-use mathlib.Core.Path.{_≡_, refl, sym, ap, subst, _∙_}
+use mathlib.Core.Path.{_≡_, refl, sym, ap, _∙_}
 use mathlib.Core.Bool.{Bool, true, false, cond, _&&_, and-false}
 use mathlib.Core.List.{List, _++_}
-use mathlib.Core.Option.{Option, none, some}
+use mathlib.Core.Option.{none, some}
 use mathlib.Core.Logic.{_≢_}
 use native.Mathlib.Omega.{arith}
 use native.Mathlib.Decide.{ℕ-discrete}
-use lib.Dec.{eqb, ltb}
+use lib.Dec.{ltb}
 use lib.ListN.{length, getD, drop, set, replicate, length-set, length-append, length-drop, length-replicate, getD-replicate, List·getD-append}
 use lib.Seq.{getD-set-same, getD-set-other, drop-set-lt, drop-at}
-use borrow.Author.Tests.{eq-eqb, ne-eqb, le-ltb, lt-ltb}
+use borrow.Author.Tests.{ne-eqb, le-ltb, lt-ltb}
 use Rattle.words.specs.Search.{highest}
 use Rattle.flash_model.specs.UserBlock.{number, rightChecksum}
 use Rattle.flash_model.specs.Partition.{blockAt, copyAt, holder}
 use Rattle.flash_listing.specs.BlockTests.{isNew}
 use Rattle.flash_listing.specs.Passing.{PassAt}
-use Rattle.flash_listing.specs.Places.{placeOf, entered, PlacesOf}
+use Rattle.flash_listing.specs.NumberPlaces.{placeOf, entered, PlacesOf}
 use Rattle.flash_listing.proofs.MarkLaws.{passed-at, passed-wrong, stored, held-here, new-below}
 
 -- ---- one block

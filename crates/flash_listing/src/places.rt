@@ -9,7 +9,7 @@ ghost use Prim.Native.Nat.{_≤_, _<_};
 ghost use lib.ListN.{length, drop, replicate};
 ghost use Rattle.flash_model.specs.Measures.{capacity};
 ghost use Rattle.flash_partition.specs.Usable.{Usable};
-ghost use Rattle.flash_listing.specs.Places.{entered, PlacesOf};
+ghost use Rattle.flash_listing.specs.NumberPlaces.{entered, PlacesOf};
 
 // Makes the first places 0.
 fn clear(places: &mut [u16], end: usize)

@@ -1,8 +1,8 @@
 -- A claim's saves are done, one after the other. Assumes nothing.
-use Prim.Native.Nat.{ℕ, suc, _≤_, _<_}
+use Prim.Native.Nat.{ℕ, _≤_}
 use mathlib.Core.Path.{_≡_, refl, sym, ap, subst, _∙_}
-use mathlib.Core.Bool.{Bool, true, false, not, cond, _||_, true≢false}
-use mathlib.Core.List.{List, [], _∷_, _++_, map}
+use mathlib.Core.Bool.{Bool, true, false, not, cond, _||_}
+use mathlib.Core.List.{List, [], _∷_, _++_}
 use mathlib.Core.Option.{Option, none, some}
 use mathlib.Core.Logic.{_⊎_, inl, inr}
 use native.Mathlib.Omega.{arith}
@@ -13,15 +13,14 @@ use Rattle.words.specs.Lists.{isSome}
 use Rattle.words.proofs.Bools.{or-false-left, or-false-right}
 use Rattle.words.proofs.SearchLaws.{IsLowest, lowest-some}
 use Rattle.flash_model.specs.Measures.{topNumber}
-use Rattle.flash_model.specs.Partition.{row, refusal, headerNumber, Sound, contents}
+use Rattle.flash_model.specs.Partition.{row, refusal, Sound, contents}
 use Rattle.flash_model.specs.Slots.{slotCount, slotNumber, rightHeader, productOf, validSlot, productSlot, freeSlot, claimedSlot, writtenSlot, pageBytes, slotRefusal}
-use Rattle.flash_model.specs.Calls.{PageCall, Call, Reply, claimRows, codeOf, accepted, afterPage, afterPages, savesAt, callsMade, replyTo, after}
+use Rattle.flash_model.specs.Calls.{PageCall, claimRows, codeOf, accepted, afterPage, savesAt, callsMade, replyTo, after}
 use Rattle.flash_model.specs.Calls.{PageCall.save, CompoundCall.claim, Call.onPage, Call.onPages}
 use Rattle.flash_model.specs.PageStore.{expectedPage}
 use Rattle.flash_model.specs.Runs.{countsAs, answeredPages}
 use Rattle.flash_model.specs.Demands.{Keeps}
 use Rattle.flash_model.specs.SlotDemands.{AllDone}
-use Rattle.flash_model.proofs.MeasureLaws.{legal-le}
 use Rattle.flash_model.proofs.SoundLaws.{unrefused-sound, header-number}
 use Rattle.flash_model.proofs.SlotLaws.{SlotOpen, slot-open, slot-legal}
 use Rattle.flash_model.proofs.MeaningLaws.{contents-length}

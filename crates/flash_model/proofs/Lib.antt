@@ -22,6 +22,9 @@ pub mod Demand1Laws
 pub mod StoreLaws
 pub mod ClaimLaws
 pub mod RunLaws
+pub mod SlotHeaderLaws
+pub mod SlotCodeLaws
+pub mod ClaimRuleLaws
 pub mod SlotRuleLaws
 pub mod ByteLaws
 pub mod WitnessLaws

@@ -12,7 +12,7 @@ use borrow.Author.Tests.{leb-true, le-leb}
 use Rattle.words.proofs.Bools.{and-true-left, and-true-right}
 use Rattle.flash_model.specs.Slots.{slotNumber, dataNumber}
 use Rattle.flash_model.specs.Runs.{Step, ownsHeader, namesData, countsAs, answeredPages, pageSteps, onOwned, isSave, ownedOf, callsOf}
-use Rattle.flash_model.specs.Demands.{HeaderOwned, SlotMayStand, SlotOwned, OneOf, PremisesMean}
+use Rattle.flash_model.specs.Premises.{HeaderOwned, SlotMayStand, SlotOwned, OneOf, PremisesMean}
 use Rattle.flash_model.proofs.SlotLaws.{header-first, header-second, data-is}
 
 stand-test : (named own headers : Bool) → ((not (named && own) || headers) ≡ true) ↔ (named ≡ true → own ≡ true → headers ≡ true)

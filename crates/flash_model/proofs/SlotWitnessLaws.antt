@@ -9,14 +9,13 @@ use native.Mathlib.Omega.{arith}
 use native.Mathlib.Decide.{ℕ-discrete}
 use lib.Dec.{eqb, leb, ltb}
 use lib.ListN.{length, getD, take, drop, replicate, length-append, length-take, length-drop, length-replicate, take-append-drop}
-use lib.Seq.{take-at, drop-at}
-use borrow.Author.Tests.{eqb-true, eqb-false, eq-eqb, ne-eqb, leb-true, le-leb, ltb-true, lt-ltb}
+use lib.Seq.{take-at}
+use borrow.Author.Tests.{eq-eqb, ne-eqb, leb-true, le-leb, ltb-true, lt-ltb}
 use Rattle.words.specs.Words.{word, wordBytes}
 use Rattle.words.proofs.PartsLaws.{word-past}
-use Rattle.words.proofs.WordLaws.{word-after}
 use Rattle.checksum.specs.Crc.{checksumOf}
-use Rattle.flash_model.specs.Measures.{legalSize, capacity, topNumber}
-use Rattle.flash_model.specs.Partition.{contents, refusal, used}
+use Rattle.flash_model.specs.Measures.{capacity, topNumber}
+use Rattle.flash_model.specs.Partition.{contents, used}
 use Rattle.flash_model.specs.Slots.{slotNumber, slotSize, slotPartition, rightHeader, productSlot, slotRefusal}
 use Rattle.flash_model.specs.Calls.{Call, codeOf, replyTo, after}
 use Rattle.flash_model.specs.Calls.{WholeCall.slotFind, CompoundCall.claim, Call.onWhole, Call.onPages}
@@ -24,7 +23,8 @@ use Rattle.flash_model.specs.Demands.{LowestFreeBlank, Bytes, Witness}
 use Rattle.flash_model.specs.SlotDemands.{HeaderIs, IsSlot, ProductAt, LowestProduct, ClaimFound, ClaimWritten}
 use Rattle.flash_model.specs.SlotWitnesses.{HeaderFor, BlankPartition, OneSlot, AllSlots, SlotsNotVacuous}
 use Rattle.flash_model.proofs.SlotLaws.{slot-legal, right-bytes, bytes-right, open-slot}
-use Rattle.flash_model.proofs.SlotRuleLaws.{product-found, product-none, slot-rules}
+use Rattle.flash_model.proofs.SlotHeaderLaws.{product-found, product-none}
+use Rattle.flash_model.proofs.SlotRuleLaws.{slot-rules}
 use Rattle.flash_model.proofs.ByteLaws.{bytes-append, bytes-replicate, bytes-take, bytes-drop, word-bytes}
 use Rattle.flash_model.proofs.SoundLaws.{unrefused-sound}
 use Rattle.flash_model.proofs.MeaningLaws.{meanings}

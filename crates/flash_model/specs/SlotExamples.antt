@@ -1,13 +1,12 @@
 -- Worked examples of slots: their numbers, a header, and which slot calls are on owned numbers. They hold by computation.
 -- Assumes nothing.
-use Prim.Native.Nat.{ℕ, _+_, _*_}
+use Prim.Native.Nat.{ℕ}
 use mathlib.Core.Path.{_≡_, refl}
 use mathlib.Core.Bool.{Bool, true, false, _||_}
 use mathlib.Core.List.{List, [], _∷_, _++_, map}
-use mathlib.Core.Option.{none, some}
+use mathlib.Core.Option.{some}
 use lib.Dec.{eqb}
 use lib.ListN.{replicate, set}
-use Rattle.words.specs.Lists.{numbersFrom}
 use Rattle.words.specs.Words.{word}
 use Rattle.checksum.specs.Crc.{shift, shifts, takeByte, crcFrom, checksumOf}
 use Rattle.flash_model.specs.Measures.{blocks, bitmapBlocks, firstBitmap, capacity, topNumber, legalNumber}
@@ -23,18 +22,25 @@ pub slot-numbers : slotNumber 0 0 ∷ slotNumber 1 0 ∷ dataNumber 1 0 ∷ slot
 unfolding slotNumber dataNumber
 slot-numbers = refl
 
--- A header whose product number is ABCDEFGHIJ; the checksum 48DF is from an outside program.
+-- A header made by an outside program, tests/vectors/slots.py: product number T-40502D01, name GALTUYEG SAMPLE, file SETTINGS.
+unfoldable pub productNumber : List ℕ
+productNumber = 0x54 ∷ 0x2D ∷ 0x34 ∷ 0x30 ∷ 0x35 ∷ 0x30 ∷ 0x32 ∷ 0x44 ∷ 0x30 ∷ 0x31 ∷ []
+
 unfoldable pub gameHeader : List ℕ
-gameHeader = (0x01 ∷ 0xFF ∷ numbersFrom 0x41 10) ++ replicate 100 0 ++ 0xDF ∷ 0x48 ∷ replicate 6 255
+gameHeader =
+    (0x01 ∷ 0xFF ∷ productNumber)
+    ++ (0x47 ∷ 0x41 ∷ 0x4C ∷ 0x54 ∷ 0x55 ∷ 0x59 ∷ 0x45 ∷ 0x47 ∷ 0x20 ∷ 0x53 ∷ 0x41 ∷ 0x4D ∷ 0x50 ∷ 0x4C ∷ 0x45 ∷ replicate 33 32)
+    ++ (0x53 ∷ 0x45 ∷ 0x54 ∷ 0x54 ∷ 0x49 ∷ 0x4E ∷ 0x47 ∷ 0x53 ∷ replicate 36 32)
+    ++ (replicate 4 0 ++ 0x12 ∷ 0x34 ∷ 0x56 ∷ 0x78 ∷ 0x31 ∷ 0x80 ∷ replicate 6 255)
 
 -- It is right; wrong with another start, another byte under the checksum, or the checksum's bytes exchanged.
-pub header-tests : map rightHeader (gameHeader ∷ set gameHeader 0 2 ∷ set gameHeader 1 0 ∷ set gameHeader 111 1 ∷ set (set gameHeader 112 0x48) 113 0xDF ∷ set gameHeader 114 0 ∷ [])
+pub header-tests : map rightHeader (gameHeader ∷ set gameHeader 0 2 ∷ set gameHeader 1 0 ∷ set gameHeader 111 1 ∷ set (set gameHeader 112 0x80) 113 0x31 ∷ set gameHeader 114 0 ∷ [])
     ≡ true ∷ false ∷ false ∷ false ∷ false ∷ true ∷ []
-unfolding gameHeader rightHeader word shift shifts takeByte crcFrom checksumOf
+unfolding productNumber gameHeader rightHeader word shift shifts takeByte crcFrom checksumOf
 header-tests = refl
 
-pub header-product : productOf gameHeader ≡ numbersFrom 0x41 10
-unfolding gameHeader productOf
+pub header-product : productOf gameHeader ≡ productNumber
+unfolding productNumber gameHeader productOf
 header-product = refl
 
 -- ---- slot 2 is blocks 32 to 35: header, header, data block 0, data block 1

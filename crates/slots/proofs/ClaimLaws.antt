@@ -1,21 +1,20 @@
 -- A claim: its two saves, each with what stands there as expected. Assumes nothing.
 use Prim.Native.Nat.{ℕ, _+_, _-_, _*_, _≤_}
-use mathlib.Core.Path.{_≡_, refl, sym, ap, subst, _∙_}
-use mathlib.Core.Bool.{Bool, true, false, not, cond, _||_}
-use mathlib.Core.List.{List, [], _∷_, _++_}
-use mathlib.Core.Option.{Option, none, some}
+use mathlib.Core.Path.{_≡_, refl, ap, subst, _∙_}
+use mathlib.Core.Bool.{true, false, cond}
+use mathlib.Core.List.{List, _++_}
+use mathlib.Core.Option.{none, some}
 use mathlib.Core.Logic.{_≢_, _⊎_, inl, inr}
 use native.Mathlib.Omega.{arith}
 use lib.Dec.{eqb}
 use lib.ListN.{length, take, drop}
 use lib.Seq.{take-all}
 use borrow.Author.Tests.{eq-eqb, ne-eqb}
-use Rattle.words.specs.Lists.{isSome}
 use Rattle.flash_model.specs.Measures.{topNumber}
 use Rattle.flash_model.specs.Partition.{refusal, contents}
 use Rattle.flash_model.specs.Update.{saved}
 use Rattle.flash_model.specs.Slots.{slotSize, slotPartition, rightHeader, productOf, productSlot, freeSlot, claimedSlot, writtenSlot, pageBytes}
-use Rattle.flash_model.specs.Calls.{readRows, saveRows, claimRows, codeOf, afterPage, afterPages, savesAt, callsMade}
+use Rattle.flash_model.specs.Calls.{readRows, saveRows, claimRows, codeOf, afterPage, callsMade}
 use Rattle.flash_model.specs.Calls.{PageCall.save, CompoundCall.claim, Call.onPages}
 use Rattle.flash_model.proofs.SlotLaws.{header-first, header-second, open-slot}
 use Rattle.flash_model.proofs.ClaimLaws.{free-most, claim-rows, firstSave, secondSave, FirstDone, first-saved}

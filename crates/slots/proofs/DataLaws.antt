@@ -6,7 +6,7 @@ use mathlib.Core.List.{List}
 use mathlib.Core.Option.{Option, none, some}
 use mathlib.Core.Logic.{_≢_}
 use native.Mathlib.Omega.{arith}
-use lib.Dec.{eqb, ltb}
+use lib.Dec.{eqb}
 use lib.ListN.{length}
 use borrow.Author.Tests.{eq-eqb, ne-eqb, lt-ltb, le-ltb}
 use Rattle.words.specs.Lists.{isSome}
@@ -19,7 +19,7 @@ use Rattle.flash_model.proofs.MeasureLaws.{le-legal}
 use Rattle.flash_model.proofs.RowLaws.{row-zero}
 use Rattle.flash_model.proofs.SlotLaws.{slot-legal, data-legal, slot-there, block-most}
 use Rattle.flash_partition.specs.declared.opening.OpenedLog.{OpenedLog}
-use Rattle.flash_pages.specs.Rows.{orBuffer, readBuffer}
+use Rattle.flash_pages.specs.Rows.{readBuffer}
 use Rattle.slots.specs.SlotUsable.{SlotUsable}
 use Rattle.slots.specs.SlotAnswers.{dataBuffer}
 

@@ -19,8 +19,8 @@ use Rattle.flash_model.specs.Partition.{blockAt, holder, contents}
 use Rattle.flash_model.specs.Slots.{slotNumber, joined, slotHeader, rightHeader, isRight, validSlot}
 use Rattle.flash_model.proofs.HolderLaws.{holder-held}
 use Rattle.flash_model.proofs.SlotLaws.{header-first, header-second}
-use Rattle.flash_listing.specs.Places.{placeOf}
-use Rattle.slots.specs.Headers.{pageIn, headerIn}
+use Rattle.flash_listing.specs.NumberPlaces.{placeOf}
+use Rattle.slots.specs.HeaderBlocks.{pageIn, headerIn}
 use Rattle.slots.specs.SlotUsable.{SlotPlaces}
 
 -- ---- two pages, one behind the other

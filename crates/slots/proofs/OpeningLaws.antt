@@ -1,9 +1,8 @@
 -- How slots are opened: each `return` of the function is a case of the rows 1 to 5 of a slot call. Assumes nothing.
 use Prim.Native.Nat.{ℕ}
-use mathlib.Core.Path.{_≡_, refl, sym, ap, subst, _∙_}
-use mathlib.Core.List.{List, [], _∷_}
+use mathlib.Core.Path.{_≡_, sym, ap, subst, _∙_}
+use mathlib.Core.List.{List}
 use mathlib.Core.Logic.{_≢_}
-use native.Mathlib.Omega.{arith}
 use lib.ListN.{length}
 use borrow.Author.Tests.{eq-eqb, ne-eqb}
 use Rattle.flash_model.specs.Partition.{refusal}
@@ -14,7 +13,7 @@ use Rattle.flash_partition.specs.OpenAnswers.{logOf, openedBy, openingOf}
 use Rattle.flash_partition.specs.declared.opening.OpenedLog.{OpenedLog}
 use Rattle.flash_partition.specs.declared.opening.Opened.{Opened}
 use Rattle.flash_partition.specs.declared.opening.Opened.the-variants.{Refused, Ready}
-use Rattle.flash_partition.proofs.OpenedLaws.{told-refused, told-ready, log-usable}
+use Rattle.flash_partition.proofs.OpenedLaws.{told-ready, log-usable}
 use Rattle.slots.specs.SlotUsable.{SlotUsable}
 
 module _ (image : List ℕ) (partition : ℕ) where

@@ -1,18 +1,18 @@
 -- The searches over all slots, as the loops go from slot to slot. Assumes nothing.
 use Prim.Native.Nat.{ℕ, _+_, _-_, _≤_, _<_}
-use mathlib.Core.Path.{_≡_, refl, sym, ap, subst, _∙_}
+use mathlib.Core.Path.{_≡_, refl, sym, ap, _∙_}
 use mathlib.Core.Bool.{Bool, true, false, not, cond, _&&_}
 use mathlib.Core.List.{List}
-use mathlib.Core.Option.{Option, none, some, Option·some-injective}
+use mathlib.Core.Option.{Option, none, some}
 use mathlib.Core.Logic.{_≢_}
 use native.Mathlib.Omega.{arith}
 use lib.Dec.{eqb, leb}
-use lib.ListN.{length, getD, take, drop}
+use lib.ListN.{length, take, drop}
 use borrow.Author.Tests.{eq-eqb, ne-eqb, leb-true, le-leb}
 use Rattle.words.specs.Lists.{isSome}
 use Rattle.words.specs.Search.{lowest}
 use Rattle.words.specs.Words.{sameBytes}
-use Rattle.words.proofs.SearchLaws.{IsLowest, lowest-some, lowest-none, lowest-is, lowest-nothing}
+use Rattle.words.proofs.SearchLaws.{lowest-some, lowest-none, lowest-is, lowest-nothing}
 use Rattle.words.proofs.LoopLaws.{lowest-here, lowest-next, lowest-end}
 use Rattle.flash_model.specs.Measures.{blocks, bitmapBlocks, firstBitmap, capacity}
 use Rattle.flash_model.specs.Partition.{row}
@@ -21,7 +21,7 @@ use Rattle.flash_model.specs.Slots.{slotCount, slotHeader, rightHeader, product
 use Rattle.flash_model.proofs.ClaimLaws.{slot-count}
 use Rattle.flash_partition.specs.declared.opening.OpenedLog.{OpenedLog}
 use Rattle.flash_partition.proofs.UsableLaws.{usable-has}
-use Rattle.flash_listing.specs.Places.{PlacesOf}
+use Rattle.flash_listing.specs.NumberPlaces.{PlacesOf}
 use Rattle.slots.specs.SlotUsable.{SlotUsable, SlotPlaces}
 use Rattle.slots.specs.SlotAnswers.{searchedOf, slotOr}
 use Rattle.slots.specs.declared.SlotNumber.{SlotNumber}

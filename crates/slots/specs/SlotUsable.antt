@@ -8,7 +8,7 @@ use Rattle.flash_model.specs.Partition.{refusal, holder}
 use Rattle.flash_measures.specs.HasMeasures.{HasMeasures}
 use Rattle.flash_partition.specs.Usable.{Usable}
 use Rattle.flash_partition.specs.declared.opening.OpenedLog.{OpenedLog}
-use Rattle.flash_listing.specs.Places.{placeOf}
+use Rattle.flash_listing.specs.NumberPlaces.{placeOf}
 
 -- The image is a sound partition 3 of 32,768 bytes, and the log is of it.
 pub record SlotUsable (image : List ℕ) (log : OpenedLog) : Type 0 where

@@ -12,7 +12,7 @@ ghost use lib.ListN.{length};
 ghost use Rattle.flash_model.specs.Measures.{capacity};
 ghost use Rattle.flash_model.specs.Slots.{rightHeader, isRight};
 ghost use Rattle.flash_measures.specs.HasMeasures.{HasMeasures};
-ghost use Rattle.slots.specs.Headers.{headerIn};
+ghost use Rattle.slots.specs.HeaderBlocks.{headerIn};
 
 pub(crate) const HEADER_BYTES: usize = 120;
 

@@ -1,13 +1,13 @@
 -- `flash_listing::places::find_places` meets its contract. The loop's invariant: the pass is at k, with the places as marks, and those that
 -- are not 0 are right. Assumes nothing.
-use Prim.Native.Nat.{ℕ, _-_, _≤_}
-use mathlib.Core.Path.{_≡_, refl, sym, ap, subst, _∙_}
+use Prim.Native.Nat.{ℕ, _≤_}
+use mathlib.Core.Path.{ap, subst, _∙_}
 use mathlib.Core.List.{List}
 use native.Mathlib.Omega.{arith}
 use lib.ListN.{length}
 use Rattle.flash_partition.proofs.UsableLaws.{usable-legal, usable-measured, count-most}
 use Rattle.flash_listing.specs.Passing.{PassAt}
-use Rattle.flash_listing.specs.Places.{entered, PlacesOf}
+use Rattle.flash_listing.specs.NumberPlaces.{entered, PlacesOf}
 use Rattle.flash_listing.proofs.MarkLaws.{pass-first}
 use Rattle.flash_listing.proofs.PlaceLaws.{Placed, none-placed, cleared-length, entered-next, all-placed}
 use borrow.Author.Needs.{needs}

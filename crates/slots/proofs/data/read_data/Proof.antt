@@ -1,7 +1,6 @@
 -- `data::read_data` meets its contract. Assumes nothing.
 use Prim.Native.Nat.{ℕ}
-use mathlib.Core.Path.{_≡_, sym, ap, _∙_}
-use mathlib.Core.List.{List}
+use mathlib.Core.Path.{sym, ap, _∙_}
 use native.Mathlib.Omega.{arith}
 use Rattle.flash_model.specs.Calls.{readRows}
 use Rattle.flash_model.proofs.SlotLaws.{data-is}

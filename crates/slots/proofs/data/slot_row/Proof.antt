@@ -1,7 +1,6 @@
 -- `data::slot_row` meets its contract: each `return` is a row. Assumes nothing.
 use mathlib.Core.Path.{_≡_, refl, sym, _∙_}
 use mathlib.Core.Bool.{true}
-use native.Mathlib.Omega.{arith}
 use borrow.Author.Tests.{not-true, not-false}
 use Rattle.flash_model.specs.Slots.{validSlot}
 use Rattle.slots.proofs.DataLaws.{past-99, not-valid, other-block, data-block}

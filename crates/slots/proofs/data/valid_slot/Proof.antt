@@ -1,11 +1,9 @@
 -- `data::valid_slot` meets its contract. Assumes nothing.
-use Prim.Native.Nat.{ℕ, _+_, _*_}
+use Prim.Native.Nat.{_+_, _*_}
 use mathlib.Core.Path.{_≡_, refl, ap, _∙_}
-use mathlib.Core.List.{List, _++_}
-use mathlib.Core.Option.{none, some}
+use mathlib.Core.List.{_++_}
 use native.Mathlib.Omega.{arith}
-use lib.ListN.{length, take, drop, length-take, length-drop}
-use Rattle.flash_model.specs.Partition.{contents}
+use lib.ListN.{length, take, drop, length-take}
 use Rattle.flash_model.specs.Slots.{rightHeader}
 use Rattle.slots.proofs.HeaderLaws.{joined-pages, back-60, both-120, first-missing, second-missing, both-valid}
 use Rattle.slots.proofs.DataLaws.{page-there, page-missing, first-in-range, second-in-range}

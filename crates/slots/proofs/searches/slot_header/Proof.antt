@@ -1,6 +1,6 @@
 -- `searches::slot_header` meets its contract. Assumes nothing.
 use Prim.Native.Nat.{ℕ, _+_, _*_}
-use mathlib.Core.Path.{sym, subst}
+use mathlib.Core.Path.{subst}
 use mathlib.Core.List.{List}
 use mathlib.Core.Option.{Option}
 use native.Mathlib.Omega.{arith}

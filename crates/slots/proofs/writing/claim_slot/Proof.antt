@@ -38,6 +38,15 @@ right s = s .before .before .before .before
 abbrev begin : tie.After-search → tie.Start
 begin s = start (sixty (lengths (joined (right s .before))))
 
+abbrev searched : tie.After-slot2 → tie.After-search
+searched k = k .before .before
+
+abbrev chosen : tie.After-save-over → tie.After-slot2
+chosen o = o .before .before .before
+
+abbrev saved-once : tie.After-save-over2 → tie.After-save-over
+saved-once p = p .before .before .before .before
+
 -- the header is the two blocks
 header-is : (c : tie.After-right-header) → c .right-header .result ≡ rightHeader (start (sixty (lengths (joined c))) .args .first .now ++ start (sixty (lengths (joined c))) .args .second .now)
 header-is c = c .right-header .ensures ∙ ap rightHeader (joined c .join-pages .ensures)
@@ -62,20 +71,20 @@ found s =
 
 -- where it is a slot that is not valid
 freed : (k : tie.After-slot2)
-    → (productSlot (begin (k .before .before) .args .image .now) (take 10 (drop 2 (begin (k .before .before) .args .first .now ++ begin (k .before .before) .args .second .now))) ≡ none)
-    × (freeSlot (begin (k .before .before) .args .image .now) ≡ some (k .slot2 .given .0 .0))
-freed k = told-free _ _ _ (sym (k .slot2 .given .1) ∙ found (k .before .before))
+    → (productSlot (begin (searched k) .args .image .now) (take 10 (drop 2 (begin (searched k) .args .first .now ++ begin (searched k) .args .second .now))) ≡ none)
+    × (freeSlot (begin (searched k) .args .image .now) ≡ some (k .slot2 .given .0 .0))
+freed k = told-free _ _ _ (sym (k .slot2 .given .1) ∙ found (searched k))
 
 few : (k : tie.After-slot2) → k .slot2 .given .0 .0 ≤ 99
 few k =
-    let s = k .before .before in
+    let s = searched k in
     slot-99 (begin s .args .image .now) (begin s .args .first .now) (begin s .args .second .now) (ones s) (others s) (is-right (right s)) (begin s .pre) (freed k .0) (freed k .1)
 
 -- and what the first save left
-between-is : (o : tie.After-save-over) → (refusal (o .save-over .last .0) 3 ≡ 0) × (length (o .save-over .last .0) ≡ length (begin (o .before .before .before .before .before) .args .image .now))
+between-is : (o : tie.After-save-over) → (refusal (o .save-over .last .0) 3 ≡ 0) × (length (o .save-over .last .0) ≡ length (begin (searched (chosen o)) .args .image .now))
 between-is o =
-    let k = o .before .before .before in
-    let s = k .before .before in
+    let k = chosen o in
+    let s = searched k in
     opens-between (begin s .args .image .now) (begin s .args .first .now) (begin s .args .second .now) (ones s) (others s) (is-right (right s)) (begin s .pre) (freed k .0) (freed k .1) _ (o .save-over .ensures)
 
 returns : tie.Need-returns
@@ -110,14 +119,14 @@ search-requires c κs = start (sixty (lengths (joined (c .before .before .before
 save-over-requires : tie.Need-save-over-requires
 save-over-requires c κs =
     let k = c .before .before in
-    let a = begin (k .before .before) in
-    (a .pre .unrefused, (first-in-range (a .pre) (k .slot2 .given .0 .0) (few k), ones (k .before .before)))
+    let a = begin (searched k) in
+    (a .pre .unrefused, (first-in-range (a .pre) (k .slot2 .given .0 .0) (few k), ones (searched k)))
 
 save-over-requires-2 : tie.Need-save-over-requires-2
 save-over-requires-2 c κs =
     let o = c .before .before .before in
-    let k = o .before .before .before in
-    let s = k .before .before in
+    let k = chosen o in
+    let s = searched k in
     let a = begin s in
     let b = between-is o in
     (b .0, (subst (λ (n : ℕ). 25 + 4 * k .slot2 .given .0 .0 ≤ topNumber n) (sym (b .1)) (second-in-range (a .pre) (k .slot2 .given .0 .0) (few k)), others s))
@@ -129,10 +138,10 @@ add-save-over : tie.Need-add-save-over
 add-save-over c = omega (arith, few (c .before .before))
 
 mul-save-over-2 : tie.Need-mul-save-over-2
-mul-save-over-2 c = omega (arith, few (c .before .before .before .before .before .before))
+mul-save-over-2 c = omega (arith, few (chosen (c .before .before .before)))
 
 add-save-over-2 : tie.Need-add-save-over-2
-add-save-over-2 c = omega (arith, few (c .before .before .before .before .before .before))
+add-save-over-2 c = omega (arith, few (chosen (c .before .before .before)))
 
 returns-4 : tie.Need-returns-4
 returns-4 c =
@@ -147,9 +156,9 @@ returns-5 c =
 returns-6 : tie.Need-returns-6
 returns-6 c =
     let p = c .before .before in
-    let o = p .before .before .before .before in
-    let k = o .before .before .before in
-    let s = k .before .before in
+    let o = saved-once p in
+    let k = chosen o in
+    let s = searched k in
     claim-free _ _ _ (ones s) (others s) (is-right (right s)) (begin s .pre) (freed k .0) (freed k .1) _ _ (o .save-over .ensures) (p .save-over2 .ensures)
 
 pub claim-slot-spec : {M : Type 1} → statement M
