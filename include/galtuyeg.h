@@ -1,4 +1,4 @@
-/* Galtuyeg: Dreamcast system flash partitions and VMU memory cards, on images that the caller lends.
+/* Galtuyeg: Dreamcast system flash partitions, their game slots, and VMU memory cards, on images that the caller lends.
  *
  * Link target/staticlib/libcapi.a, which `rt staticlib capi` makes (x86-64).
  *
@@ -23,7 +23,7 @@ extern "C" {
 #endif
 
 /* Raised by 1 whenever a function, a struct or a number of this interface is added or changed. */
-#define GALTUYEG_VERSION 3
+#define GALTUYEG_VERSION 4
 
 /* The linked library's GALTUYEG_VERSION. Where it differs from this header's the two don't fit, and nothing else may be called. */
 uint32_t galtuyeg_version(void);
@@ -56,7 +56,12 @@ enum galtuyeg_code {
     GALTUYEG_CARD_NO_FILE = 31,
     GALTUYEG_CARD_WRONG_INDEX = 32,
     GALTUYEG_CARD_WRONG_BUFFER_LENGTH = 33,
-    GALTUYEG_CARD_NO_ROOM = 34
+    GALTUYEG_CARD_NO_ROOM = 34,
+
+    GALTUYEG_FLASH_NO_FREE_SLOT = 40,
+    GALTUYEG_FLASH_WRONG_SLOT_HEADER = 41,
+    GALTUYEG_FLASH_WRONG_SLOT = 42,
+    GALTUYEG_FLASH_WRONG_DATA_BLOCK = 43
 };
 
 /* A number in words; never NULL. */
@@ -66,11 +71,11 @@ static inline const char *galtuyeg_code_text(uint64_t code)
     case GALTUYEG_DONE:
         return "done";
     case GALTUYEG_FLASH_WRONG_LENGTH:
-        return "the image length is not one of the three";
+        return "the image length is not one of the three, or for slots not 32,768";
     case GALTUYEG_FLASH_WRONG_MAGIC:
         return "the 16 header letters are wrong";
     case GALTUYEG_FLASH_WRONG_PARTITION_NUMBER:
-        return "the header number differs from the one named";
+        return "the header number differs from the one named, or for slots the one named is not 3";
     case GALTUYEG_FLASH_WRONG_VERSION:
         return "the version is above 1";
     case GALTUYEG_FLASH_WRONG_SEQUENCE:
@@ -80,7 +85,7 @@ static inline const char *galtuyeg_code_text(uint64_t code)
     case GALTUYEG_FLASH_NOTHING_THERE:
         return "nothing is there";
     case GALTUYEG_FLASH_WRONG_BUFFER_LENGTH:
-        return "the page buffer is not 60 bytes, or the expected page neither 0 nor 60";
+        return "a page or header block is not 60 bytes, the expected page neither 0 nor 60, or the product number not 10";
     case GALTUYEG_FLASH_CHANGED:
         return "the contents differ from the expected page, or only one of them is nothing";
     case GALTUYEG_CARD_WRONG_LENGTH:
@@ -113,6 +118,14 @@ static inline const char *galtuyeg_code_text(uint64_t code)
         return "the name is not 12 bytes, the time not 8, the block buffer not 512, or the data not 1 to 200 whole blocks";
     case GALTUYEG_CARD_NO_ROOM:
         return "fewer user blocks are free than the file has";
+    case GALTUYEG_FLASH_NO_FREE_SLOT:
+        return "all hundred slots are valid, and none has the product number";
+    case GALTUYEG_FLASH_WRONG_SLOT_HEADER:
+        return "the two header blocks would not make a slot valid";
+    case GALTUYEG_FLASH_WRONG_SLOT:
+        return "the slot is above 99 or not valid";
+    case GALTUYEG_FLASH_WRONG_DATA_BLOCK:
+        return "the data block is neither 0 nor 1";
     default:
         return "unknown number";
     }
@@ -158,6 +171,43 @@ uint32_t galtuyeg_flash_save(uint8_t *image, size_t image_len, uint8_t partition
 
 /* Compacts the partition: one block for each live number is kept. 0 to 5. */
 uint32_t galtuyeg_flash_erase(uint8_t *image, size_t image_len, uint8_t partition);
+
+/* ---- Game slots: partition 3 alone, 32,768 bytes; any other length is 1, any other `partition` 3.
+ *
+ * Slot S, 0 to 99, is logical numbers 24 + 4 * S and the three behind it: two header blocks, then data blocks 0 and 1. It is
+ * valid when both header blocks have contents and these, 120 bytes, are a right header: 01 FF first, and at 0x70 the flash
+ * checksum of bytes 0x02 to 0x6F. The product number is the 10 bytes from 0x02.
+ *
+ * Numbers 1 to 5, 8, 41, 42, 43, then 7, 9 or 40, tested in this order. After a refusal `slot` is 0. */
+
+#define GALTUYEG_SLOTS 100
+#define GALTUYEG_PRODUCT_BYTES 10
+
+struct galtuyeg_slot {
+    uint64_t code;
+    uint64_t slot;
+};
+
+/* The lowest valid slot with this product number, 10 bytes: 0 to 5, 8, 7. */
+struct galtuyeg_slot galtuyeg_slot_find(const uint8_t *image, size_t image_len, uint8_t partition, const uint8_t *product,
+                                        size_t product_len);
+
+/* The lowest valid slot not below `from`, which may be any number: 0 to 5, 7. */
+struct galtuyeg_slot galtuyeg_slot_list(const uint8_t *image, size_t image_len, uint8_t partition, uint64_t from);
+
+/* Gives the slot that galtuyeg_slot_find gives for the product number of this header, two blocks of 60 bytes, and changes
+ * nothing. Where there is none it saves the two at the lowest slot that is not valid, and gives that. 0 to 5, 8, 41, 40. */
+struct galtuyeg_slot galtuyeg_slot_claim(uint8_t *image, size_t image_len, uint8_t partition, const uint8_t *first,
+                                         size_t first_len, const uint8_t *second, size_t second_len);
+
+/* Fills `page`, 60 bytes, with the contents of data block 0 or 1 of a valid slot: 0 to 5, 8, 42, 43, 7. */
+uint32_t galtuyeg_slot_read(const uint8_t *image, size_t image_len, uint8_t partition, uint64_t slot, uint64_t block,
+                            uint8_t *page, size_t page_len);
+
+/* Saves `page`, 60 bytes, as the contents of data block 0 or 1 of a valid slot, if these are still what the writer last saw:
+ * `expected` is 60 bytes, or 0 for nothing there. 0 to 5, 8, 42, 43, 9. */
+uint32_t galtuyeg_slot_save(uint8_t *image, size_t image_len, uint8_t partition, uint64_t slot, uint64_t block,
+                            const uint8_t *expected, size_t expected_len, const uint8_t *page, size_t page_len);
 
 /* ---- Memory cards: images of 131,072 bytes.
  *

@@ -1,11 +1,12 @@
-"""ctypes_example.py LIBRARY: saves a page in a blank partition and reads it back; puts a file onto an empty card, reads a block
-of it and takes it off."""
+"""ctypes_example.py LIBRARY: saves a page in a blank partition and reads it back; claims a game slot there; puts a file onto an
+empty card, reads a block of it and takes it off."""
+import binascii
 import ctypes
 import struct
 import sys
 from ctypes import c_size_t, c_uint8, c_uint32, c_uint64, c_void_p
 
-VERSION = 3  # GALTUYEG_VERSION of the header that these declarations follow
+VERSION = 4  # GALTUYEG_VERSION of the header that these declarations follow
 BUFFER = [c_void_p, c_size_t]
 PARTITION = [*BUFFER, c_uint8]
 CARD_FILE = [*BUFFER, *BUFFER]  # card, name
@@ -13,6 +14,10 @@ CARD_FILE = [*BUFFER, *BUFFER]  # card, name
 
 class Report(ctypes.Structure):
     _fields_ = [(name, c_uint64) for name in ("code", "version", "capacity", "used", "live")]
+
+
+class Slot(ctypes.Structure):
+    _fields_ = [(name, c_uint64) for name in ("code", "slot")]
 
 
 class Verdict(ctypes.Structure):
@@ -36,6 +41,8 @@ check = declare("galtuyeg_flash_check", c_uint32, *PARTITION)
 report = declare("galtuyeg_flash_report", Report, *PARTITION)
 read = declare("galtuyeg_flash_read", c_uint32, *PARTITION, c_uint64, *BUFFER)
 save = declare("galtuyeg_flash_save", c_uint32, *PARTITION, c_uint64, *BUFFER, *BUFFER)
+slot_claim = declare("galtuyeg_slot_claim", Slot, *PARTITION, *BUFFER, *BUFFER)
+slot_save = declare("galtuyeg_slot_save", c_uint32, *PARTITION, c_uint64, c_uint64, *BUFFER, *BUFFER)
 card_read = declare("galtuyeg_card_read", Verdict, *CARD_FILE, c_uint64, *BUFFER)
 card_write = declare("galtuyeg_card_write", Verdict, *CARD_FILE, c_uint8, *BUFFER, c_uint64, *BUFFER)
 card_delete = declare("galtuyeg_card_delete", Verdict, *CARD_FILE)
@@ -47,15 +54,23 @@ image = ctypes.create_string_buffer(header.ljust(32768, b"\xff"), 32768)
 done(check(image, len(image), 3))
 
 page = b"saved from Python".ljust(60)
-done(save(image, len(image), 3, 24, None, 0, page, len(page)))
+done(save(image, len(image), 3, 500, None, 0, page, len(page)))
 seen = ctypes.create_string_buffer(60)
-done(read(image, len(image), 3, 24, seen, len(seen)))
+done(read(image, len(image), 3, 500, seen, len(seen)))
 if seen.raw != page:
     sys.exit("another page was read than saved")
 
 found = report(image, len(image), 3)
 done(found.code)
 print(f"from Python: {found.used} of {found.capacity} blocks used, {found.live} live")
+
+fields = b"T-40502D01" + b"FROM PYTHON".ljust(48) + b"SETTINGS".ljust(44) + bytes(8)  # product, names, time
+checksum = struct.pack("<H", binascii.crc_hqx(fields, 0xFFFF) ^ 0xFFFF)
+slot_header = b"\x01\xff" + fields + checksum + b"\xff" * 6
+claimed = slot_claim(image, len(image), 3, slot_header[:60], 60, slot_header[60:], 60)
+done(claimed.code)
+done(slot_save(image, len(image), 3, claimed.slot, 0, None, 0, page, len(page)))
+print(f"from Python: slot {claimed.slot} claimed, and a page saved in it")
 
 table = [0xFFFC] * 241 + [0xFFFA, *range(241, 253), 0xFFFA, 0xFFFA]  # free blocks, directory, FAT, root
 root = b"\x55" * 16 + bytes(0x36) + struct.pack("<6H", 254, 1, 253, 13, 0, 200)

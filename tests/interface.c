@@ -10,6 +10,7 @@
 #define PARTITION_BYTES 32768
 #define CARD_BYTES 131072
 #define MOST_BLOCKS 200
+#define HEADER_BYTES (2 * GALTUYEG_PAGE_BYTES)
 
 static int tested = 0;
 
@@ -94,12 +95,14 @@ static void version_and_texts(void)
     CHECK(strcmp(unknown, "unknown number") == 0);
     for (code = 0; code < 100; code++) {
         int known = code <= GALTUYEG_FLASH_CHANGED
-            || (code >= GALTUYEG_CARD_WRONG_LENGTH && code <= GALTUYEG_CARD_NO_ROOM);
+            || (code >= GALTUYEG_CARD_WRONG_LENGTH && code <= GALTUYEG_CARD_NO_ROOM)
+            || (code >= GALTUYEG_FLASH_NO_FREE_SLOT && code <= GALTUYEG_FLASH_WRONG_DATA_BLOCK);
         CHECK((strcmp(galtuyeg_code_text(code), unknown) != 0) == known);
     }
     CHECK(strcmp(galtuyeg_code_text(5), "an allocated user block follows a free one") == 0);
     CHECK(strcmp(galtuyeg_code_text(28), "a block is also in an earlier entry's file") == 0);
     CHECK(strcmp(galtuyeg_code_text(34), "fewer user blocks are free than the file has") == 0);
+    CHECK(strcmp(galtuyeg_code_text(42), "the slot is above 99 or not valid") == 0);
 }
 
 static void flash_calls(uint8_t *image, uint8_t *before)
@@ -146,6 +149,160 @@ static void flash_calls(uint8_t *image, uint8_t *before)
     CHECK(galtuyeg_flash_erase(image, PARTITION_BYTES, 3) == 0);
     CHECK(galtuyeg_flash_report(image, PARTITION_BYTES, 3).used == 1);
     CHECK(galtuyeg_flash_erase(NULL, 0, 3) == 1);
+}
+
+/* The flash checksum, as the published routine works it. */
+static unsigned flash_checksum(const uint8_t *bytes, size_t length)
+{
+    unsigned sum = 0xFFFF;
+    size_t i;
+    int bit;
+
+    for (i = 0; i < length; i++) {
+        sum ^= (unsigned)bytes[i] << 8;
+        for (bit = 0; bit < 8; bit++)
+            sum = sum & 0x8000 ? sum << 1 ^ 4129 : sum << 1;
+    }
+    return ~sum & 0xFFFF;
+}
+
+/* A right header of a slot whose product number ends in `last`. */
+static void make_header(uint8_t *header, unsigned last)
+{
+    memset(header, 0xFF, HEADER_BYTES);
+    memcpy(header, "\x01\xFFT-40502D0", 11);
+    header[11] = (uint8_t)last;
+    memset(header + 12, 0x20, 100);
+    put_word(header + 0x70, flash_checksum(header + 2, 110));
+}
+
+static struct galtuyeg_slot claim(uint8_t *image, const uint8_t *header)
+{
+    return galtuyeg_slot_claim(image, PARTITION_BYTES, 3, header, 60, header + 60, 60);
+}
+
+static int at_slot(struct galtuyeg_slot answer, uint64_t slot)
+{
+    return answer.code == 0 && answer.slot == slot;
+}
+
+static int no_slot(struct galtuyeg_slot answer, uint64_t code)
+{
+    return answer.code == code && answer.slot == 0;
+}
+
+/* All hundred slots, the one that is refused, and a slot made free by a wrong header block. */
+static void slot_claims(uint8_t *image, uint8_t *before)
+{
+    uint8_t header[HEADER_BYTES], page[GALTUYEG_PAGE_BYTES];
+    unsigned i;
+
+    format_partition(image);
+    make_header(header, 0);
+    CHECK(no_slot(galtuyeg_slot_find(image, PARTITION_BYTES, 3, header + 2, 10), 7));
+    CHECK(no_slot(galtuyeg_slot_list(image, PARTITION_BYTES, 3, 0), 7));
+    for (i = 0; i < GALTUYEG_SLOTS; i++) {
+        make_header(header, i);
+        CHECK(at_slot(claim(image, header), i));
+        CHECK(at_slot(galtuyeg_slot_find(image, PARTITION_BYTES, 3, header + 2, 10), i));
+        CHECK(at_slot(galtuyeg_slot_list(image, PARTITION_BYTES, 3, i), i));
+    }
+    CHECK(galtuyeg_flash_report(image, PARTITION_BYTES, 3).used == 200);
+    CHECK(galtuyeg_flash_read(image, PARTITION_BYTES, 3, 421, page, sizeof page) == 0);
+    CHECK(memcmp(page, header + 60, 60) == 0);
+    CHECK(no_slot(galtuyeg_slot_list(image, PARTITION_BYTES, 3, UINT64_MAX), 7));
+
+    memcpy(before, image, PARTITION_BYTES);
+    CHECK(at_slot(claim(image, header), 99));
+    make_header(header, 100);
+    CHECK(no_slot(claim(image, header), 40));
+    header[0x70] ^= 1;
+    CHECK(no_slot(claim(image, header), 41));
+    CHECK(memcmp(image, before, PARTITION_BYTES) == 0);
+    CHECK(galtuyeg_flash_save(image, PARTITION_BYTES, 3, 421, page, sizeof page, header + 60, 60) == 0);
+    header[0x70] ^= 1;
+    CHECK(at_slot(claim(image, header), 99));
+}
+
+/* The data blocks of slot 1, which are numbers 30 and 31. */
+static void slot_pages(uint8_t *image)
+{
+    uint8_t header[HEADER_BYTES], page[GALTUYEG_PAGE_BYTES], new_page[GALTUYEG_PAGE_BYTES], before[GALTUYEG_PAGE_BYTES];
+    uint64_t block;
+
+    format_partition(image);
+    make_header(header, 7);
+    CHECK(at_slot(claim(image, header), 0));
+    make_header(header, 8);
+    CHECK(at_slot(claim(image, header), 1));
+    for (block = 0; block < 2; block++) {
+        memset(page, 9, sizeof page);
+        memcpy(before, page, sizeof page);
+        memset(new_page, (int)block, sizeof new_page);
+        CHECK(galtuyeg_slot_read(image, PARTITION_BYTES, 3, 1, block, page, sizeof page) == 7);
+        CHECK(memcmp(page, before, sizeof page) == 0);
+        CHECK(galtuyeg_slot_save(image, PARTITION_BYTES, 3, 1, block, page, 60, new_page, 60) == 9);
+        CHECK(galtuyeg_slot_save(image, PARTITION_BYTES, 3, 1, block, NULL, 0, page, 60) == 0);
+        CHECK(galtuyeg_slot_save(image, PARTITION_BYTES, 3, 1, block, NULL, 0, page, 60) == 9);
+        CHECK(galtuyeg_slot_save(image, PARTITION_BYTES, 3, 1, block, page, 60, new_page, 60) == 0);
+        CHECK(galtuyeg_slot_read(image, PARTITION_BYTES, 3, 1, block, page, sizeof page) == 0);
+        CHECK(memcmp(page, new_page, sizeof page) == 0);
+        CHECK(galtuyeg_flash_read(image, PARTITION_BYTES, 3, 30 + block, page, sizeof page) == 0);
+        CHECK(memcmp(page, new_page, sizeof page) == 0);
+    }
+}
+
+/* After slot_pages: numbers, lengths and NULL, in their order. */
+static void slot_refusals(uint8_t *image, uint8_t *before)
+{
+    static const uint64_t high[] = {2, 100, (uint64_t)1 << 32, UINT64_MAX};
+    uint8_t header[HEADER_BYTES], page[GALTUYEG_PAGE_BYTES];
+    size_t i;
+
+    make_header(header, 9);
+    memset(page, 9, sizeof page);
+    memcpy(before, image, PARTITION_BYTES);
+    for (i = 0; i < sizeof high / sizeof *high; i++) {
+        CHECK(galtuyeg_slot_read(image, PARTITION_BYTES, 3, high[i], high[i], page, sizeof page) == 42);
+        CHECK(galtuyeg_slot_save(image, PARTITION_BYTES, 3, high[i], high[i], page, 60, page, 60) == 42);
+        CHECK(galtuyeg_slot_read(image, PARTITION_BYTES, 3, 1, high[i], page, sizeof page) == 43);
+        CHECK(galtuyeg_slot_save(image, PARTITION_BYTES, 3, 1, high[i], page, 60, page, 60) == 43);
+    }
+    CHECK(galtuyeg_slot_read(image, PARTITION_BYTES, 3, 100, 2, NULL, 0) == 8);
+    CHECK(galtuyeg_slot_save(image, PARTITION_BYTES, 3, 100, 2, NULL, 0, NULL, 0) == 8);
+    CHECK(galtuyeg_slot_save(image, PARTITION_BYTES, 3, 100, 2, page, 59, page, 60) == 8);
+    CHECK(no_slot(galtuyeg_slot_find(image, PARTITION_BYTES, 3, NULL, 0), 8));
+    CHECK(no_slot(galtuyeg_slot_find(image, PARTITION_BYTES, 3, header, 11), 8));
+    CHECK(no_slot(galtuyeg_slot_claim(image, PARTITION_BYTES, 3, NULL, 0, header, 60), 8));
+    CHECK(no_slot(galtuyeg_slot_claim(image, PARTITION_BYTES, 3, header, 60, NULL, 0), 8));
+    CHECK(no_slot(galtuyeg_slot_claim(image, PARTITION_BYTES, 3, header, 60, header, 60), 41));
+
+    CHECK(no_slot(galtuyeg_slot_find(NULL, 0, 3, NULL, 0), 1));
+    CHECK(no_slot(galtuyeg_slot_list(image, 16384, 3, 0), 1));
+    CHECK(no_slot(galtuyeg_slot_list(NULL, 0, 3, 0), 1));
+    CHECK(no_slot(galtuyeg_slot_claim(NULL, 0, 3, NULL, 0, NULL, 0), 1));
+    CHECK(galtuyeg_slot_read(NULL, 0, 3, 0, 0, NULL, 0) == 1);
+    CHECK(galtuyeg_slot_save(NULL, 0, 3, 0, 0, NULL, 0, NULL, 0) == 1);
+    CHECK(memcmp(image, before, PARTITION_BYTES) == 0 && page[0] == 9 && page[59] == 9);
+}
+
+/* After slot_refusals: a partition that is not 3, whichever number is named. */
+static void slot_partitions(uint8_t *image, uint8_t *before)
+{
+    uint8_t header[HEADER_BYTES];
+
+    make_header(header, 7);
+    CHECK(no_slot(galtuyeg_slot_find(image, PARTITION_BYTES, 2, header + 2, 10), 3));
+    image[16] = 2;
+    memcpy(before, image, PARTITION_BYTES);
+    CHECK(galtuyeg_flash_check(image, PARTITION_BYTES, 2) == 0);
+    CHECK(no_slot(galtuyeg_slot_find(image, PARTITION_BYTES, 2, header + 2, 10), 3));
+    CHECK(no_slot(galtuyeg_slot_list(image, PARTITION_BYTES, 2, 0), 3));
+    CHECK(no_slot(galtuyeg_slot_claim(image, PARTITION_BYTES, 2, header, 60, header + 60, 60), 3));
+    CHECK(no_slot(claim(image, header), 3));
+    CHECK(galtuyeg_slot_read(image, PARTITION_BYTES, 2, 0, 0, header, 60) == 3);
+    CHECK(galtuyeg_slot_save(image, PARTITION_BYTES, 2, 0, 0, NULL, 0, header, 60) == 3);
+    CHECK(memcmp(image, before, PARTITION_BYTES) == 0);
 }
 
 static void card_calls(uint8_t *card)
@@ -425,6 +582,10 @@ int main(void)
         return 2;
     version_and_texts();
     flash_calls(image, before);
+    slot_claims(image, before);
+    slot_pages(image);
+    slot_refusals(image, before);
+    slot_partitions(image, before);
     card_calls(card);
     card_changes(card, before);
     free(image);

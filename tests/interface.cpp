@@ -17,6 +17,7 @@ int main()
 
     const galtuyeg_report report = galtuyeg_flash_report(image.data(), image.size(), 3);
     const galtuyeg_next_live next = galtuyeg_flash_next_live(image.data(), image.size(), 3, 0);
+    const galtuyeg_slot listed = galtuyeg_slot_list(image.data(), image.size(), 3, 0);
     const galtuyeg_card_checked checked = galtuyeg_card_check(card.data(), card.size());
     const galtuyeg_card_entry entry = galtuyeg_card_list(card.data(), card.size(), 0);
     const galtuyeg_card_verdict read =
@@ -28,7 +29,7 @@ int main()
     const galtuyeg_place_kind root = GALTUYEG_BLOCK;
 
     const bool as_expected = galtuyeg_version() == GALTUYEG_VERSION && report.code == GALTUYEG_DONE && report.capacity == 510
-        && next.code == GALTUYEG_FLASH_NOTHING_THERE && checked.code == unformatted && checked.place_kind == root
+        && next.code == GALTUYEG_FLASH_NOTHING_THERE && listed.code == GALTUYEG_FLASH_NOTHING_THERE && checked.code == unformatted && checked.place_kind == root
         && checked.place == 255 && entry.code == unformatted && read.code == unformatted && written.code == unformatted
         && deleted.code == unformatted;
     std::puts(as_expected ? "interface: the same from C++" : "interface.cpp: an answer from C++ is not as expected");

@@ -13,8 +13,10 @@ ROOT = HERE.parent
 sys.path.insert(0, str(HERE / "vectors"))
 import card as card_model  # noqa: E402
 import flash_runs as flash_model  # noqa: E402
+import slots as slot_model  # noqa: E402
 
 GCC = ["gcc", "-std=c99", "-Wall", "-Wextra", "-Wpedantic", "-Werror", f"-I{ROOT / 'include'}"]
+WRONG_LENGTH = "the image length is not one of the three, or for slots not 32,768"
 MANUAL = (ROOT / "docs/MANUAL.md").read_text(encoding="utf-8")
 
 
@@ -49,7 +51,33 @@ def try_partition(program, folder):
         assert flash_model.save(expected, 3, 24, seen, b"\x5a" + (seen or bytes(60))[1:]) == 0
         assert out.read_bytes() == expected, "the image that the example left is another one"
     image.write_bytes(blank[:-1])
-    expect(program, [image, out], 1, "read refused 1: the image length is not one of the three\n")
+    expect(program, [image, out], 1, f"read refused 1: {WRONG_LENGTH}\n")
+
+
+def try_slots(program, folder):
+    """The first slot is claimed and found again; with all slots taken, or a byte too few, nothing is written."""
+    image, out = folder / "partition.bin", folder / "partition.out"
+    product = b"T-40502D01"
+    expected = flash_model.formatted(32768, 3)
+    image.write_bytes(expected)
+    for count in (1, 2):
+        expect(program, [image, out, product.decode()], 0, "saved in slot 0\n")
+        assert slot_model.claim(expected, 3, *slot_model.make_header(product)) == (0, 0)
+        seen, page = bytes([count - 1]).ljust(60, b"\0"), bytes([count]).ljust(60, b"\0")
+        assert slot_model.save(expected, 3, 0, 0, seen if count > 1 else b"", page) == 0
+        assert out.read_bytes() == expected, "the image that the example left is another one"
+        image.write_bytes(expected)
+
+    full = flash_model.formatted(32768, 3)
+    for number in range(100):
+        for block, page in enumerate(slot_model.make_header(b"T-%08d" % number)):
+            assert flash_model.save(full, 3, slot_model.first_number(number) + block, b"", page) == 0
+    image.write_bytes(full)
+    no_slot = "claim refused 40: all hundred slots are valid, and none has the product number\n"
+    expect(program, [image, out, product.decode()], 1, no_slot)
+    image.write_bytes(full[:-1])
+    expect(program, [image, out, product.decode()], 1, f"claim refused 1: {WRONG_LENGTH}\n")
+    assert out.read_bytes() == expected, "a refused claim wrote an image"
 
 
 def try_card(program, folder):
@@ -101,12 +129,13 @@ def try_files(program, folder):
 
 
 def main(library):
-    partition, card, files = programs("c")
+    partition, slots, card, files = programs("c")
     (python,) = programs("python")
     assert python == (HERE / "ctypes_example.py").read_text(encoding="utf-8"), "the manual's Python program is another one"
     with tempfile.TemporaryDirectory() as name:
         folder = pathlib.Path(name)
         try_partition(compiled(partition, folder / "partition.c", library), folder)
+        try_slots(compiled(slots, folder / "slots.c", library), folder)
         try_card(compiled(card, folder / "card.c", library), folder)
         try_files(compiled(files, folder / "files.c", library), folder)
     print("manual: its programs run as expected")

@@ -1,5 +1,6 @@
 #!/usr/bin/env python3
-"""samples.py: holds the card's rows of the table of samples against vectors/card.py, a model written from the papers alone.
+"""samples.py: holds the card's rows of the table of samples against vectors/card.py, and the slot header among the examples against
+vectors/slots.py, models written from the papers alone.
 
 The theorem samples-hold says that the definitions give the values of crates/samples/specs/CardSamples.antt. This says that those
 values are the ones that the model prints, a line for each row, in the table's order. Ends with a line that counts the rows
@@ -10,7 +11,11 @@ import subprocess
 import sys
 
 HERE = pathlib.Path(__file__).resolve().parent
-TABLE = HERE.parent / "crates/samples/specs/CardSamples.antt"
+CRATES = HERE.parent / "crates"
+TABLE = CRATES / "samples/specs/CardSamples.antt"
+EXAMPLES = CRATES / "flash_model/specs/SlotExamples.antt"
+sys.path.insert(0, str(HERE / "vectors"))
+import slots  # noqa: E402
 
 
 def groups(text):
@@ -62,6 +67,13 @@ def model_rows():
         yield label, [int(n) for n in numbers.split()]
 
 
+def example_header():
+    """The header in the examples of slots, with its product number put in."""
+    text = re.sub(r"--[^\n]*", "", EXAMPLES.read_text(encoding="utf-8"))
+    product, header = (re.search(rf"^{name} =(.*?)^\s*$", text, re.M | re.S)[1] for name in ("productNumber", "gameHeader"))
+    return bytes(values(header.replace("productNumber", product).replace("(", " ").replace(")", " ")))
+
+
 def main():
     rows, lines = list(table_rows()), list(model_rows())
     for i, (row, (label, numbers)) in enumerate(zip(rows, lines)):
@@ -69,7 +81,9 @@ def main():
             sys.exit(f"row {i}, {label}: the table has {row}, the model {numbers}")
     if len(rows) != len(lines):
         sys.exit(f"the table has {len(rows)} rows, the model prints {len(lines)} lines")
-    print(f"{len(rows)} card samples as the model has them")
+    if example_header() != b"".join(slots.WORKED_HEADER):
+        sys.exit(f"the header in the examples is {example_header().hex()}, the model's {b''.join(slots.WORKED_HEADER).hex()}")
+    print(f"{len(rows)} card samples and a slot header as the models have them")
 
 
 if __name__ == "__main__":

@@ -3,7 +3,7 @@
 use std::time::Duration;
 
 pub const HELP: &str = "\
-Times the proved library, a simple and, but for cards, the best plain implementation on the same inputs and prints two tables.
+Times the proved library, a simple and, but for slots and cards, the best plain implementation on the same inputs and prints two tables.
 
   --rounds N    how many paired rounds for each row (default 301)
   --quick       11 rounds of shorter timings: to see that it runs, not to compare

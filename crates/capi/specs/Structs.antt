@@ -13,6 +13,7 @@ use Rattle.card_model.specs.declared.CopyProtection.the-variants.{Protected, Co
 use Rattle.card_model.specs.declared.Listing.{Listing}
 use Rattle.capi.specs.declared.answers.ReportAnswer.{ReportAnswer}
 use Rattle.capi.specs.declared.answers.NextLiveAnswer.{NextLiveAnswer}
+use Rattle.capi.specs.declared.answers.SlotAnswer.{SlotAnswer}
 use Rattle.capi.specs.declared.answers.CardCheckAnswer.{CardCheckAnswer}
 use Rattle.capi.specs.declared.answers.CardEntryAnswer.{CardEntryAnswer}
 use Rattle.capi.specs.declared.answers.CardVerdictAnswer.{CardVerdictAnswer}
@@ -35,6 +36,10 @@ reportOf reply = record {
 
 unfoldable pub nextLiveOf : Reply → NextLiveAnswer
 nextLiveOf reply = record { code = reply .code; number = valueAt reply 0 }
+
+-- A slot: document 02, order 4. Find "gives the lowest valid slot with it", a claim "the slot find would give" or the one it wrote.
+unfoldable pub slotOf : Reply → SlotAnswer
+slotOf reply = record { code = reply .code; slot = valueAt reply 0 }
 
 -- ---- cards: "A card refusal also names its place"
 

@@ -2,12 +2,16 @@
 use card_model::CopyProtection;
 use flash::LiveNumber;
 use flash::Summary;
+use slots::SlotNumber;
 use verdicts::Place;
 use verdicts::Verdict;
+ghost use Prim.Native.Nat.{ℕ};
 ghost use mathlib.Core.Path.{_≡_};
+ghost use mathlib.Core.List.{List};
 ghost use Rattle.verdicts.specs.Rows.{placeNumber};
 ghost use Rattle.flash.specs.Answers.{reportAnswer, nextAnswer};
-ghost use Rattle.capi.specs.Structs.{reportOf, nextLiveOf, cardVerdictOf, kindOf, protectedNumber};
+ghost use Rattle.slots.specs.SlotAnswers.{slotAnswer};
+ghost use Rattle.capi.specs.Structs.{reportOf, nextLiveOf, slotOf, cardVerdictOf, kindOf, protectedNumber};
 
 #[repr(C)]
 pub struct ReportAnswer {
@@ -22,6 +26,12 @@ pub struct ReportAnswer {
 pub struct NextLiveAnswer {
     pub code: u64,
     pub number: u64,
+}
+
+#[repr(C)]
+pub struct SlotAnswer {
+    pub code: u64,
+    pub slot: u64,
 }
 
 #[repr(C)]
@@ -88,6 +98,22 @@ pub fn next_live_of(next: LiveNumber) -> NextLiveAnswer
         LiveNumber::Hit(number) => NextLiveAnswer {
             code: 0,
             number: number as u64,
+        },
+    }
+}
+
+// The buffers that the call was lent play no part in what C receives.
+pub fn slot_of(found: SlotNumber) -> SlotAnswer
+    ensures { λ r. ⌜ ((lent : List (List ℕ)) → r ≡ slotOf (slotAnswer found lent)) ⌝ }
+{
+    match found {
+        SlotNumber::Refused(refused) => SlotAnswer {
+            code: refused as u64,
+            slot: 0,
+        },
+        SlotNumber::Hit(slot) => SlotAnswer {
+            code: 0,
+            slot: slot as u64,
         },
     }
 }

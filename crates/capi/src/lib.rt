@@ -9,21 +9,24 @@ use answers::CardEntryAnswer;
 use answers::CardVerdictAnswer;
 use answers::NextLiveAnswer;
 use answers::ReportAnswer;
+use answers::SlotAnswer;
 use answers::card_verdict_of;
 use answers::copy_protected;
 use answers::next_live_of;
 use answers::report_of;
+use answers::slot_of;
 use card::DataNumbers;
+use slots::DataBlock;
 ghost use mathlib.Core.Path.{_≡_};
 ghost use mathlib.Core.List.{[], _∷_};
-ghost use Rattle.flash_model.specs.Calls.{Answered, codeAnswer, replyTo, Call.onPage, Call.onWhole, PageCall.read, PageCall.save, WholeCall.check, WholeCall.report, WholeCall.nextLive, WholeCall.erase};
+ghost use Rattle.flash_model.specs.Calls.{Answered, codeAnswer, replyTo, after, Call.onPage, Call.onWhole, Call.onPages, PageCall.read, PageCall.save, PageCall.slotRead, PageCall.slotSave, WholeCall.check, WholeCall.report, WholeCall.nextLive, WholeCall.erase, WholeCall.slotFind, WholeCall.slotList, CompoundCall.claim};
 ghost use Rattle.card_model.specs.Calls.{checkOf, listOf, readVerdict, readBuffer};
 ghost use Rattle.card_updates.specs.Delete.{deleteVerdict, deleted};
 ghost use Rattle.card_updates.specs.Write.{givenFile, writeVerdict, written};
 ghost use Rattle.capi.specs.Interface.{interfaceVersion};
-ghost use Rattle.capi.specs.Structs.{reportOf, nextLiveOf, cardCheckOf, cardEntryOf, cardVerdictOf};
+ghost use Rattle.capi.specs.Structs.{reportOf, nextLiveOf, slotOf, cardCheckOf, cardEntryOf, cardVerdictOf};
 
-const INTERFACE_VERSION: u32 = 3;
+const INTERFACE_VERSION: u32 = 4;
 
 #[no_mangle]
 pub extern "C" fn galtuyeg_version() -> u32
@@ -83,6 +86,68 @@ pub extern "C" fn galtuyeg_flash_erase(image: &mut [u8], partition: u8) -> u32
     ensures { λ r. ⌜ Answered (now (image .entry)) (onWhole (erase partition)) (now (image .exit)) (codeAnswer r []) ⌝ }
 {
     flash::erase(image, partition) as u32
+}
+
+#[no_mangle]
+pub extern "C" fn galtuyeg_slot_find(image: &[u8], partition: u8, product: &[u8]) -> SlotAnswer
+    ensures { λ r. ⌜ r ≡ slotOf (replyTo (now (image .entry)) (onWhole (slotFind partition (now (product .entry))))) ⌝ }
+{
+    slot_of(slots::find(image, partition, product))
+}
+
+#[no_mangle]
+pub extern "C" fn galtuyeg_slot_list(image: &[u8], partition: u8, from: u64) -> SlotAnswer
+    ensures { λ r. ⌜ r ≡ slotOf (replyTo (now (image .entry)) (onWhole (slotList partition from))) ⌝ }
+{
+    slot_of(slots::list(image, partition, from as usize))
+}
+
+#[no_mangle]
+pub extern "C" fn galtuyeg_slot_claim(
+    image: &mut [u8],
+    partition: u8,
+    first: &[u8],
+    second: &[u8],
+) -> SlotAnswer
+    ensures { λ r. ⌜ r ≡ slotOf (replyTo (now (image .entry)) (onPages (claim partition (now (first .entry)) (now (second .entry))))) ⌝ }
+    ensures { λ _. ⌜ now (image .exit) ≡ after (now (image .entry)) (onPages (claim partition (now (first .entry)) (now (second .entry)))) ⌝ }
+{
+    slot_of(slots::claim(image, partition, first, second))
+}
+
+#[no_mangle]
+pub extern "C" fn galtuyeg_slot_read(
+    image: &[u8],
+    partition: u8,
+    slot: u64,
+    block: u64,
+    page: &mut [u8],
+) -> u32
+    ensures { λ r. ⌜ Answered (now (image .entry)) (onPage (slotRead partition slot block (now (page .entry)))) (now (image .entry)) (codeAnswer r (now (page .exit) ∷ [])) ⌝ }
+{
+    let at = DataBlock {
+        slot: slot as usize,
+        block: block as usize,
+    };
+    slots::read(image, partition, at, page) as u32
+}
+
+#[no_mangle]
+pub extern "C" fn galtuyeg_slot_save(
+    image: &mut [u8],
+    partition: u8,
+    slot: u64,
+    block: u64,
+    expected: &[u8],
+    page: &[u8],
+) -> u32
+    ensures { λ r. ⌜ Answered (now (image .entry)) (onPage (slotSave partition slot block (now (expected .entry)) (now (page .entry)))) (now (image .exit)) (codeAnswer r (now (expected .entry) ∷ now (page .entry) ∷ [])) ⌝ }
+{
+    let at = DataBlock {
+        slot: slot as usize,
+        block: block as usize,
+    };
+    slots::save(image, partition, at, expected, page) as u32
 }
 
 #[no_mangle]

@@ -6,8 +6,8 @@ pub const DEFAULT_ROUNDS: u64 = 20_000;
 const DEFAULT_SEED: u64 = 1;
 
 pub const HELP: &str = "\
-Runs the proved library, the independent implementation and, for partitions, the fastest one on the same inputs and compares
-every answer and every byte.
+Runs the proved library, the independent implementation and, for the partition calls, the fastest one on the same inputs and
+compares every answer and every byte.
 
   --seed N     fixes all inputs (default 1)
   --rounds N   how many rounds (default 20000); below that, fewer answers of each number are asked for

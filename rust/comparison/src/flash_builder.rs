@@ -54,7 +54,7 @@ pub fn full(prng: &mut Prng) -> Partition {
 }
 
 /// A free block that is not FF: often the lowest, which a save looks at.
-fn spoil_free(prng: &mut Prng, made: &mut Partition) {
+pub fn spoil_free(prng: &mut Prng, made: &mut Partition) {
     let (lowest, highest) = (made.used + 1, made.size.capacity());
     if lowest > highest {
         return;
@@ -63,7 +63,7 @@ fn spoil_free(prng: &mut Prng, made: &mut Partition) {
     prng.flip_bit(block_mut(&mut made.bytes, place));
 }
 
-fn stir_ignored_bits(prng: &mut Prng, made: &mut Partition) {
+pub fn stir_ignored_bits(prng: &mut Prng, made: &mut Partition) {
     let bits = 8 * (made.size.length - made.size.bitmap * BLOCK);
     for place in made.size.bitmap..=bits {
         if prng.one_in(2) {

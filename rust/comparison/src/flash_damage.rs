@@ -26,6 +26,16 @@ impl Damage {
         }
     }
 
+    /// To header or bitmap: a sound partition hardly stays so.
+    pub fn header(&self, prng: &mut Prng, bytes: &mut [u8]) {
+        match prng.below(4) {
+            0 => prng.flip_bit(&mut bytes[..16]),
+            1 => bytes[16] = prng.pick_or_byte(&[self.number ^ 1]),
+            2 => bytes[17] = prng.pick(&[2, 3, 0x80, 0xff]),
+            _ => self.hole(prng, bytes),
+        }
+    }
+
     /// To user blocks alone: a sound partition stays sound.
     pub fn blocks(&self, prng: &mut Prng, bytes: &mut [u8]) {
         let place = self.place(prng);

@@ -82,7 +82,7 @@ fn start(prng: &mut Prng) -> Partition {
     }
 }
 
-fn odd_image(prng: &mut Prng) -> Vec<u8> {
+pub fn odd_image(prng: &mut Prng) -> Vec<u8> {
     const EDGES: [usize; 18] = [
         0, 1, 15, 16, 17, 18, 63, 64, 65, 16_383, 16_384, 16_385, 32_767, 32_768, 32_769, 65_535,
         65_536, 65_537,
@@ -166,7 +166,7 @@ fn save_over_contents(round: &mut Round, image: &mut Lent, own: u8, top: u64) {
 }
 
 /// Mostly the bytes themselves; else a bit off, none, some, or of another length.
-fn nearly(prng: &mut Prng, mut bytes: Vec<u8>) -> Vec<u8> {
+pub fn nearly(prng: &mut Prng, mut bytes: Vec<u8>) -> Vec<u8> {
     match prng.below(12) {
         0 if !bytes.is_empty() => prng.flip_bit(&mut bytes),
         1 => bytes.clear(),

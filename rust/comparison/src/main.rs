@@ -1,5 +1,5 @@
-//! Runs the proved library, the independent implementation and, for partitions, the fastest one on the same
-//! inputs and compares every answer, every value and every byte of every buffer.
+//! Runs the proved library, the independent implementation and, for the partition calls, the fastest one on
+//! the same inputs and compares every answer, every value and every byte of every buffer.
 
 mod args;
 mod card_arguments;
@@ -16,6 +16,11 @@ mod flash_rounds;
 mod flash_writers;
 mod lent;
 mod round;
+mod slot_arguments;
+mod slot_builder;
+mod slot_compare;
+mod slot_rounds;
+mod slot_writers;
 mod tally;
 
 use std::env;
@@ -30,7 +35,7 @@ use tally::Tally;
 const LEAST: u64 = 1_000;
 
 /// What the rounds do in turn.
-const TURNS: [fn(&mut Round); 22] = [
+const TURNS: [fn(&mut Round); 29] = [
     flash_rounds::lengths,
     flash_rounds::built,
     flash_rounds::built,
@@ -39,6 +44,13 @@ const TURNS: [fn(&mut Round); 22] = [
     flash_rounds::grown,
     flash_rounds::full,
     flash_rounds::writers,
+    slot_rounds::lengths,
+    slot_rounds::refused,
+    slot_rounds::refused,
+    slot_rounds::built,
+    slot_rounds::taken,
+    slot_rounds::filled,
+    slot_rounds::writers,
     card_rounds::lengths,
     card_rounds::sound,
     card_rounds::sound,

@@ -2,10 +2,11 @@
 
 use std::fmt::Write;
 
-/// Numbers run to 34, with a gap.
-const NUMBERS: usize = 35;
-const CALLS: usize = FLASH_CALLS.len() + CARD_CALLS.len();
+/// Numbers run to 43, with gaps.
+const NUMBERS: usize = 44;
+const CALLS: usize = FLASH_CALLS.len() + SLOT_CALLS.len() + CARD_CALLS.len();
 const FLASH: [u64; 10] = [0, 1, 2, 3, 4, 5, 6, 7, 8, 9];
+const SLOT: [u64; 13] = [0, 1, 2, 3, 4, 5, 7, 8, 9, 40, 41, 42, 43];
 const CARD: [u64; 16] = [0, 20, 21, 22, 23, 24, 25, 26, 27, 28, 29, 30, 31, 32, 33, 34];
 
 #[derive(Clone, Copy, Debug, PartialEq, Eq)]
@@ -16,6 +17,11 @@ pub enum Call {
     FlashRead,
     FlashSave,
     FlashErase,
+    SlotFind,
+    SlotList,
+    SlotClaim,
+    SlotRead,
+    SlotSave,
     CardCheck,
     CardList,
     CardRead,
@@ -31,6 +37,8 @@ const FLASH_CALLS: [Call; 6] = [
     Call::FlashSave,
     Call::FlashErase,
 ];
+const SLOT_CALLS: [Call; 5] =
+    [Call::SlotFind, Call::SlotList, Call::SlotClaim, Call::SlotRead, Call::SlotSave];
 const CARD_CALLS: [Call; 5] =
     [Call::CardCheck, Call::CardList, Call::CardRead, Call::CardWrite, Call::CardDelete];
 
@@ -47,6 +55,11 @@ impl Call {
             Call::FlashRead => "flash_read",
             Call::FlashSave => "flash_save",
             Call::FlashErase => "flash_erase",
+            Call::SlotFind => "slot_find",
+            Call::SlotList => "slot_list",
+            Call::SlotClaim => "slot_claim",
+            Call::SlotRead => "slot_read",
+            Call::SlotSave => "slot_save",
             Call::CardCheck => "card_check",
             Call::CardList => "card_list",
             Call::CardRead => "card_read",
@@ -62,6 +75,11 @@ impl Call {
             Call::FlashNextLive => matches!(number, 0..=5 | 7),
             Call::FlashRead => matches!(number, 0..=8),
             Call::FlashSave => matches!(number, 0..=6 | 8 | 9),
+            Call::SlotFind => matches!(number, 0..=5 | 7 | 8),
+            Call::SlotList => matches!(number, 0..=5 | 7),
+            Call::SlotClaim => matches!(number, 0..=5 | 8 | 40 | 41),
+            Call::SlotRead => matches!(number, 0..=5 | 7 | 8 | 42 | 43),
+            Call::SlotSave => matches!(number, 0..=5 | 8 | 9 | 42 | 43),
             Call::CardCheck => matches!(number, 0 | 20..=30),
             Call::CardList => matches!(number, 0 | 20..=31),
             Call::CardRead => matches!(number, 0 | 20..=33),
@@ -115,15 +133,19 @@ impl Tally {
         self.differences
     }
 
-    /// The numbers answered fewer than `least` times, 0 counted over flash and cards apart, and what a
-    /// call that changes a card answers on a sound one for each such call.
+    /// The numbers answered fewer than `least` times, counted over flash, slots and cards apart, 0 for each
+    /// slot call, and what a call that changes a card answers on a sound one for each such call.
     pub fn below(&self, least: u64) -> Vec<String> {
         let few = |calls: &[Call], number| self.total(calls, number) < least;
         let flash = FLASH.into_iter().filter(|&number| few(&FLASH_CALLS, number));
+        let slot = SLOT.into_iter().filter(|&number| few(&SLOT_CALLS, number));
+        let undone = SLOT_CALLS.into_iter().filter(|&call| few(&[call], 0));
         let card = CARD.into_iter().filter(|&number| few(&CARD_CALLS, number));
         let own = own_counts(&self.own).filter(|&(_, _, count)| count < least);
         flash
             .map(|number| format!("flash {number}"))
+            .chain(slot.map(|number| format!("slot {number}")))
+            .chain(undone.map(|call| format!("{} 0", call.name())))
             .chain(card.map(|number| format!("card {number}")))
             .chain(own.map(|(call, number, _)| format!("{call} {number} on a sound card")))
             .collect()
@@ -132,6 +154,7 @@ impl Tally {
     pub fn table(&self) -> String {
         let mut text = String::new();
         self.rows(&mut text, &FLASH_CALLS, &FLASH);
+        self.rows(&mut text, &SLOT_CALLS, &SLOT);
         self.rows(&mut text, &CARD_CALLS, &CARD);
         for (call, number, count) in own_counts(&self.own) {
             writeln!(text, "{call} {number} on a sound card: {count}").unwrap();
@@ -182,7 +205,9 @@ mod tests {
 
     #[test]
     fn the_lists_have_what_their_calls_may_give() {
-        for (calls, list) in [(&FLASH_CALLS[..], &FLASH[..]), (&CARD_CALLS, &CARD)] {
+        let families: [(&[Call], &[u64]); 3] =
+            [(&FLASH_CALLS, &FLASH), (&SLOT_CALLS, &SLOT), (&CARD_CALLS, &CARD)];
+        for (calls, list) in families {
             let given: Vec<u64> = calls.iter().flat_map(|&call| counted(call)).collect();
             assert!(given.iter().all(|number| list.contains(number)));
             assert!(list.iter().all(|number| given.contains(number)));
@@ -197,6 +222,11 @@ mod tests {
             (Call::FlashErase, 6),
             (Call::FlashRead, 9),
             (Call::FlashSave, 7),
+            (Call::SlotFind, 42),
+            (Call::SlotList, 8),
+            (Call::SlotClaim, 9),
+            (Call::SlotRead, 6),
+            (Call::SlotSave, 41),
             (Call::CardCheck, 5),
             (Call::CardList, 32),
             (Call::CardRead, 34),
@@ -207,6 +237,16 @@ mod tests {
             assert!(!tally.count(call, number), "{} {number}", call.name());
         }
         assert!(tally.table().contains("calls 0,"));
+    }
+
+    #[test]
+    fn a_slot_call_that_is_never_done_is_missed() {
+        let mut tally = Tally::new();
+        for call in [Call::SlotFind, Call::SlotList, Call::SlotClaim, Call::SlotRead] {
+            assert!(tally.count(call, 0));
+        }
+        let few = tally.below(1);
+        assert!(few.contains(&"slot_save 0".into()) && !few.contains(&"slot 0".into()));
     }
 
     #[test]

@@ -26,6 +26,16 @@ pub struct NextLive {
     pub number: u64,
 }
 
+/// What a search for a game slot and a claim answer. After a refusal `slot` is 0.
+#[repr(C)]
+#[derive(Clone, Copy, Debug, PartialEq, Eq)]
+pub struct Slot {
+    /// 0, or the refusal's number.
+    pub code: u64,
+    /// The slot, 0 to 99.
+    pub slot: u64,
+}
+
 /// What a card's check answers. After a refusal `orphans` is 0.
 #[repr(C)]
 #[derive(Clone, Copy, Debug, PartialEq, Eq)]
@@ -121,6 +131,53 @@ extern "C" {
     ) -> u32;
 
     pub(crate) fn galtuyeg_flash_erase(image: *mut u8, image_len: usize, partition: u8) -> u32;
+
+    pub(crate) fn galtuyeg_slot_find(
+        image: *const u8,
+        image_len: usize,
+        partition: u8,
+        product: *const u8,
+        product_len: usize,
+    ) -> Slot;
+
+    pub(crate) fn galtuyeg_slot_list(
+        image: *const u8,
+        image_len: usize,
+        partition: u8,
+        from: u64,
+    ) -> Slot;
+
+    pub(crate) fn galtuyeg_slot_claim(
+        image: *mut u8,
+        image_len: usize,
+        partition: u8,
+        first: *const u8,
+        first_len: usize,
+        second: *const u8,
+        second_len: usize,
+    ) -> Slot;
+
+    pub(crate) fn galtuyeg_slot_read(
+        image: *const u8,
+        image_len: usize,
+        partition: u8,
+        slot: u64,
+        block: u64,
+        page: *mut u8,
+        page_len: usize,
+    ) -> u32;
+
+    pub(crate) fn galtuyeg_slot_save(
+        image: *mut u8,
+        image_len: usize,
+        partition: u8,
+        slot: u64,
+        block: u64,
+        expected: *const u8,
+        expected_len: usize,
+        page: *const u8,
+        page_len: usize,
+    ) -> u32;
 
     pub(crate) fn galtuyeg_card_check(card: *const u8, card_len: usize) -> CardChecked;
 

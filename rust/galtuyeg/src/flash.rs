@@ -13,16 +13,16 @@ use crate::raw;
 /// Bytes in a page, the contents of a logical number.
 pub const PAGE_BYTES: usize = 60;
 
-/// Why a call was refused. The order is that in which the calls test, save that
-/// [`BufferLength`](Refusal::BufferLength) comes before [`NothingThere`](Refusal::NothingThere).
+/// Why a call of this module or of [`slots`](crate::slots) was refused. The calls test in the order of the
+/// numbers, save that 7, 9 and 40 come last.
 #[derive(Clone, Copy, Debug, PartialEq, Eq, Hash)]
 #[non_exhaustive]
 pub enum Refusal {
-    /// 1: the image's length isn't one of the three.
+    /// 1: the image's length isn't one of the three; of a slot's call, isn't 32,768.
     Length,
     /// 2: the header's 16 letters are wrong.
     Magic,
-    /// 3: the header's partition number isn't the one named.
+    /// 3: the header's partition number isn't the one named; of a slot's call, isn't 3.
     PartitionNumber,
     /// 4: the version is above 1.
     Version,
@@ -30,13 +30,21 @@ pub enum Refusal {
     Sequence,
     /// 6: the logical number is above the partition's top one.
     LogicalNumber,
-    /// 7: the number has no contents.
+    /// 7: the number or the slot's data block has no contents.
     NothingThere,
-    /// 8: a buffer of the wrong length. No function of this module is refused so, since its types have
-    /// the length; [`raw`]'s are.
+    /// 8: a buffer of the wrong length. No typed function is refused so, since its types have the length;
+    /// [`raw`]'s are.
     BufferLength,
     /// 9: the contents aren't what the writer last saw.
     Changed,
+    /// 40: all hundred slots are valid, and none has the product number claimed.
+    NoFreeSlot,
+    /// 41: the header claimed wouldn't make a slot valid.
+    SlotHeader,
+    /// 42: the slot is above 99 or not valid.
+    Slot,
+    /// 43: the slot's data block is neither 0 nor 1. No typed function is refused so; [`raw`]'s are.
+    DataBlock,
 }
 
 impl Refusal {
@@ -51,9 +59,13 @@ impl Refusal {
         Refusal::NothingThere,
         Refusal::BufferLength,
         Refusal::Changed,
+        Refusal::NoFreeSlot,
+        Refusal::SlotHeader,
+        Refusal::Slot,
+        Refusal::DataBlock,
     ];
 
-    /// The paper's number, 1 to 9.
+    /// The paper's number, 1 to 9 or 40 to 43.
     pub fn number(self) -> u32 {
         match self {
             Refusal::Length => 1,
@@ -65,6 +77,10 @@ impl Refusal {
             Refusal::NothingThere => 7,
             Refusal::BufferLength => 8,
             Refusal::Changed => 9,
+            Refusal::NoFreeSlot => 40,
+            Refusal::SlotHeader => 41,
+            Refusal::Slot => 42,
+            Refusal::DataBlock => 43,
         }
     }
 
@@ -77,15 +93,23 @@ impl Refusal {
 impl fmt::Display for Refusal {
     fn fmt(&self, f: &mut fmt::Formatter<'_>) -> fmt::Result {
         let text = match self {
-            Refusal::Length => "the image is not 16,384, 32,768 or 65,536 bytes long",
+            Refusal::Length => {
+                "the image is not 16,384, 32,768 or 65,536 bytes long, or for slots not 32,768"
+            }
             Refusal::Magic => "the header's letters are wrong",
-            Refusal::PartitionNumber => "the header has another partition number",
+            Refusal::PartitionNumber => {
+                "the header has another partition number, or for slots it is not 3"
+            }
             Refusal::Version => "the version is above 1",
             Refusal::Sequence => "an allocated block follows a free one",
             Refusal::LogicalNumber => "the logical number is too high",
             Refusal::NothingThere => "nothing is there",
             Refusal::BufferLength => "a buffer has the wrong length",
             Refusal::Changed => "the contents are not what the writer last saw",
+            Refusal::NoFreeSlot => "all slots are taken by other product numbers",
+            Refusal::SlotHeader => "the header would not make a slot valid",
+            Refusal::Slot => "the slot is above 99 or not valid",
+            Refusal::DataBlock => "the data block is neither 0 nor 1",
         };
         write!(f, "refused {}: {text}", self.number())
     }
@@ -206,7 +230,7 @@ pub fn erase(image: &mut [u8], partition: u8) -> Result<(), Refusal> {
     answered(raw::flash_erase(image, partition).into())
 }
 
-fn answered(code: u64) -> Result<(), Refusal> {
+pub(crate) fn answered(code: u64) -> Result<(), Refusal> {
     if code == 0 {
         return Ok(());
     }

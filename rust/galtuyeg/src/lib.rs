@@ -1,9 +1,9 @@
-//! Dreamcast system flash partitions and VMU memory cards, on images that the caller lends.
+//! Dreamcast system flash partitions, their game slots, and VMU memory cards, on images that the caller lends.
 //!
 //! A safe wrapper over a proved library. Any bytes may be handed in: every call ends, tests its own
 //! input, and answers a refusal with the image and every other buffer as they came in.
 //!
-//! [`flash`] and [`card`] have the calls with Rust's types. [`raw`] has them as the library gives them,
+//! [`flash`], [`slots`] and [`card`] have the calls with Rust's types. [`raw`] has them as the library gives them,
 //! for buffers of any length.
 //!
 //! ```
@@ -34,3 +34,4 @@ mod contract;
 mod ffi;
 pub mod flash;
 pub mod raw;
+pub mod slots;

@@ -8,10 +8,10 @@
 
 use crate::ffi;
 
-pub use crate::ffi::{CardChecked, CardEntry, CardVerdict, NextLive, Report};
+pub use crate::ffi::{CardChecked, CardEntry, CardVerdict, NextLive, Report, Slot};
 
 /// The library's interface that this crate was written for: `GALTUYEG_VERSION` of `include/galtuyeg.h`.
-pub const VERSION: u32 = 3;
+pub const VERSION: u32 = 4;
 
 /// The interface of the library that is linked. Where it isn't [`VERSION`] the two don't fit.
 pub fn version() -> u32 {
@@ -82,6 +82,88 @@ pub fn flash_save(
 pub fn flash_erase(image: &mut [u8], partition: u8) -> u32 {
     // SAFETY: pointer and length are of one slice, borrowed alone for the call.
     unsafe { ffi::galtuyeg_flash_erase(image.as_mut_ptr(), image.len(), partition) }
+}
+
+/// The lowest valid slot with this product number, 10 bytes: 0 to 5, 8, 7.
+pub fn slot_find(image: &[u8], partition: u8, product: &[u8]) -> Slot {
+    // SAFETY: each pointer and length are of one slice, borrowed for the call, which only reads them.
+    unsafe {
+        ffi::galtuyeg_slot_find(
+            image.as_ptr(),
+            image.len(),
+            partition,
+            product.as_ptr(),
+            product.len(),
+        )
+    }
+}
+
+/// The lowest valid slot not below `from`, which may be any number: 0 to 5, 7.
+pub fn slot_list(image: &[u8], partition: u8, from: u64) -> Slot {
+    // SAFETY: pointer and length are of one slice, borrowed for the call, which only reads it.
+    unsafe { ffi::galtuyeg_slot_list(image.as_ptr(), image.len(), partition, from) }
+}
+
+/// The slot with the product number of this header, two blocks of 60 bytes; where there is none, the lowest
+/// that isn't valid, where the two are saved: 0 to 5, 8, 41, 40.
+pub fn slot_claim(image: &mut [u8], partition: u8, first: &[u8], second: &[u8]) -> Slot {
+    // SAFETY: each pointer and length are of one slice, borrowed for the call; only `image` is written,
+    // and it overlaps nothing, being a `&mut`.
+    unsafe {
+        ffi::galtuyeg_slot_claim(
+            image.as_mut_ptr(),
+            image.len(),
+            partition,
+            first.as_ptr(),
+            first.len(),
+            second.as_ptr(),
+            second.len(),
+        )
+    }
+}
+
+/// Fills `page`, which is to be 60 bytes long, with data block 0 or 1 of a valid slot: 0 to 5, 8, 42, 43, 7.
+pub fn slot_read(image: &[u8], partition: u8, slot: u64, block: u64, page: &mut [u8]) -> u32 {
+    // SAFETY: each pointer and length are of one slice, borrowed for the call; only `page` is written,
+    // and it overlaps nothing, being a `&mut`.
+    unsafe {
+        ffi::galtuyeg_slot_read(
+            image.as_ptr(),
+            image.len(),
+            partition,
+            slot,
+            block,
+            page.as_mut_ptr(),
+            page.len(),
+        )
+    }
+}
+
+/// Saves `page`, 60 bytes, as data block 0 or 1 of a valid slot, if that is still what the writer last saw:
+/// `expected` is 60 bytes, or 0 for nothing there. 0 to 5, 8, 42, 43, 9.
+pub fn slot_save(
+    image: &mut [u8],
+    partition: u8,
+    slot: u64,
+    block: u64,
+    expected: &[u8],
+    page: &[u8],
+) -> u32 {
+    // SAFETY: each pointer and length are of one slice, borrowed for the call; only `image` is written,
+    // and it overlaps nothing, being a `&mut`.
+    unsafe {
+        ffi::galtuyeg_slot_save(
+            image.as_mut_ptr(),
+            image.len(),
+            partition,
+            slot,
+            block,
+            expected.as_ptr(),
+            expected.len(),
+            page.as_ptr(),
+            page.len(),
+        )
+    }
 }
 
 /// Whether the card is sound, and its number of orphans: 0, 20 to 30.

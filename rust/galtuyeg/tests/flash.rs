@@ -41,7 +41,7 @@ fn each_refusal_has_its_number() {
     assert_eq!(flash::check(&image, 2), Err(Refusal::Version));
     image[0] = 0;
     assert_eq!(flash::live_numbers(&image, 2).err(), Some(Refusal::Magic));
-    assert!(Refusal::ALL.iter().map(|refusal| refusal.number()).eq(1..=9));
+    assert!(Refusal::ALL.iter().map(|refusal| refusal.number()).eq((1..=9).chain(40..=43)));
     assert_eq!(Refusal::from_number(0), None);
     let text = "refused 7: nothing is there";
     assert_eq!(Refusal::NothingThere.to_string(), text);

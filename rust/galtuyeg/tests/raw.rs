@@ -1,7 +1,7 @@
 //! The calls as they are: the numbers and buffers that the wrapper hands on, and shared slices that
 //! overlap.
 
-use galtuyeg::raw::{self, CardChecked, CardEntry, CardVerdict, NextLive, Report};
+use galtuyeg::raw::{self, CardChecked, CardEntry, CardVerdict, NextLive, Report, Slot};
 use inputs::card::{Card, CARD};
 
 /// A formatted partition 3: header, and a bitmap of free blocks.
@@ -55,6 +55,9 @@ fn a_refusal_leaves_the_buffers_and_zeros() {
 fn empty_slices_are_refused_by_length() {
     assert_eq!(raw::flash_check(&[], 3), 1);
     assert_eq!(raw::flash_save(&mut [], 3, 0, &[], &[]), 1);
+    assert_eq!(raw::slot_find(&[], 3, &[]), Slot { code: 1, slot: 0 });
+    assert_eq!(raw::slot_claim(&mut [], 3, &[], &[]), Slot { code: 1, slot: 0 });
+    assert_eq!(raw::slot_save(&mut [], 3, 0, 0, &[], &[]), 1);
     let checked = raw::card_check(&[]);
     let refused = CardChecked { code: 20, place_kind: 0, place: 0, orphans: 0 };
     assert_eq!(checked, refused);
@@ -65,6 +68,47 @@ fn empty_slices_are_refused_by_length() {
     let refused = CardVerdict { code: 20, place_kind: 0, place: 0 };
     assert_eq!(raw::card_write(&mut [], &[], 0, &[], 0, &[]), refused);
     assert_eq!(raw::card_delete(&mut [], &[]), refused);
+}
+
+/// The blocks of a right header, made by `tests/vectors/slots.py`.
+fn slot_header() -> ([u8; 60], [u8; 60]) {
+    let (mut first, mut second) = ([b' '; 60], [b' '; 60]);
+    first[..27].copy_from_slice(b"\x01\xffT-40502D01GALTUYEG SAMPLE");
+    second[..8].copy_from_slice(b"SETTINGS");
+    second[44..].copy_from_slice(b"\0\0\0\0\x12\x34\x56\x78\x31\x80\xff\xff\xff\xff\xff\xff");
+    (first, second)
+}
+
+#[test]
+fn a_slot_is_claimed_read_and_saved() {
+    let mut image = formatted();
+    let (first, second) = slot_header();
+    let product = &first[2..12];
+    let slot_0 = Slot { code: 0, slot: 0 };
+    assert_eq!(raw::slot_list(&image, 3, 0), Slot { code: 7, slot: 0 });
+    assert_eq!(raw::slot_claim(&mut image, 3, &second, &first), Slot { code: 41, slot: 0 });
+    assert_eq!(image, formatted());
+    assert_eq!(raw::slot_claim(&mut image, 3, &first, &second), slot_0);
+    assert_eq!(raw::slot_find(&image, 3, product), slot_0);
+    assert_eq!(raw::slot_list(&image, 3, 0), slot_0);
+    assert_eq!(raw::slot_save(&mut image, 3, 0, 1, &[], &[5; 60]), 0);
+    let mut page = [7; 60];
+    assert_eq!(raw::slot_read(&image, 3, 0, 0, &mut page), 7);
+    assert_eq!(page, [7; 60]);
+    assert_eq!(raw::slot_read(&image, 3, 0, 1, &mut page), 0);
+    assert_eq!(page, [5; 60]);
+
+    let before = image.clone();
+    assert_eq!(raw::slot_read(&image, 3, 1, 2, &mut page[..59]), 8);
+    assert_eq!(raw::slot_read(&image, 3, 1, 2, &mut page), 42);
+    assert_eq!(raw::slot_read(&image, 3, 0, 1 << 32, &mut page), 43);
+    assert_eq!(raw::slot_save(&mut image, 3, 1 << 32, 0, &[], &page), 42);
+    assert_eq!(raw::slot_save(&mut image, 3, 0, 2, &[], &page), 43);
+    assert_eq!(raw::slot_save(&mut image, 3, 0, 1, &[], &page), 9);
+    assert_eq!(raw::slot_claim(&mut image, 3, &first, &second[..59]).code, 8);
+    assert_eq!(raw::slot_find(&image, 3, &product[..9]).code, 8);
+    assert_eq!(raw::slot_find(&image, 2, &[]).code, 3);
+    assert_eq!((image, page), (before, [5; 60]));
 }
 
 #[test]

@@ -10,26 +10,27 @@ use crate::checksum::checksum;
 mod tests;
 
 const BLOCK: usize = 64;
-const PAGE: usize = 60;
-const MAGIC: [u8; 16] = *b"KATANA_FLASH____";
+pub(crate) const PAGE: usize = 60;
+pub(crate) const MAGIC: [u8; 16] = *b"KATANA_FLASH____";
 const PARTITION_AT: usize = 16;
 const VERSION_AT: usize = 17;
 const NEWEST_VERSION: u8 = 1;
 /// Image bytes whose blocks one bitmap block can keep track of.
 const BYTES_PER_BITMAP_BLOCK: usize = 32_768;
 
-const DONE: u32 = 0;
-const WRONG_LENGTH: u32 = 1;
+pub(crate) const DONE: u32 = 0;
+pub(crate) const WRONG_LENGTH: u32 = 1;
 const WRONG_MAGIC: u32 = 2;
-const WRONG_PARTITION: u32 = 3;
+pub(crate) const WRONG_PARTITION: u32 = 3;
 const WRONG_VERSION: u32 = 4;
 const WRONG_BITMAP: u32 = 5;
 const WRONG_NUMBER: u32 = 6;
-const NOTHING_THERE: u32 = 7;
-const WRONG_BUFFER: u32 = 8;
+pub(crate) const NOTHING_THERE: u32 = 7;
+pub(crate) const WRONG_BUFFER: u32 = 8;
 const CHANGED: u32 = 9;
 
-type Block = [u8; BLOCK];
+pub(crate) type Block = [u8; BLOCK];
+pub(crate) type Page = [u8; PAGE];
 
 /// What a sound partition holds, in numbers.
 #[derive(Debug, Clone, Copy, PartialEq, Eq)]
@@ -111,12 +112,8 @@ pub fn erase(image: &mut [u8], partition: u8) -> u32 {
 fn try_read(image: &[u8], partition: u8, number: u64, page: &mut [u8]) -> Result<(), u32> {
     let layout = open(image, partition)?;
     let number = layout.logical_number(number)?;
-    if page.len() != PAGE {
-        return Err(WRONG_BUFFER);
-    }
-    let contents = find(layout.allocated(image), number).ok_or(NOTHING_THERE)?;
-    page.copy_from_slice(contents);
-    Ok(())
+    let page = page.try_into().map_err(|_| WRONG_BUFFER)?;
+    fill(layout.allocated(image), number, page)
 }
 
 fn try_save(
@@ -128,26 +125,57 @@ fn try_save(
 ) -> Result<(), u32> {
     let layout = open(image, partition)?;
     let number = layout.logical_number(number)?;
-    let page: &[u8; PAGE] = page.try_into().map_err(|_| WRONG_BUFFER)?;
-    let expected: Option<&[u8; PAGE]> = match expected {
+    let (expected, page) = save_buffers(expected, page)?;
+    replace(image, layout, number, expected, page)
+}
+
+/// The buffers of a save by their types.
+pub(crate) fn save_buffers<'a>(
+    expected: &'a [u8],
+    page: &'a [u8],
+) -> Result<(Option<&'a Page>, &'a Page), u32> {
+    let page = page.try_into().map_err(|_| WRONG_BUFFER)?;
+    let expected = match expected {
         [] => None,
         bytes => Some(bytes.try_into().map_err(|_| WRONG_BUFFER)?),
     };
+    Ok((expected, page))
+}
+
+/// Fills `page` with the contents of a legal number.
+pub(crate) fn fill(allocated: &[Block], number: u16, page: &mut Page) -> Result<(), u32> {
+    *page = *find(allocated, number).ok_or(NOTHING_THERE)?;
+    Ok(())
+}
+
+/// Gives a legal number new contents, provided its present ones are as `expected`.
+pub(crate) fn replace(
+    image: &mut [u8],
+    layout: Layout,
+    number: u16,
+    expected: Option<&Page>,
+    page: &Page,
+) -> Result<(), u32> {
     if find(layout.allocated(image), number) != expected {
         return Err(CHANGED);
     }
+    store(image, layout, number, page);
+    Ok(())
+}
+
+/// Gives a legal number new contents, whatever its present ones are.
+pub(crate) fn store(image: &mut [u8], layout: Layout, number: u16, page: &Page) {
     let block = build_block(number, page);
     if layout.can_append(image) {
         append(image, layout, block);
     } else {
         compact(image, layout, Some(block));
     }
-    Ok(())
 }
 
 /// The measures of a sound partition.
 #[derive(Debug, Clone, Copy, PartialEq, Eq)]
-struct Layout {
+pub(crate) struct Layout {
     /// Number of user blocks: physical blocks 1 to `capacity`, logical
     /// numbers 0 to `capacity - 1`.
     capacity: usize,
@@ -167,7 +195,7 @@ impl Layout {
         }
     }
 
-    fn allocated(self, image: &[u8]) -> &[Block] {
+    pub(crate) fn allocated(self, image: &[u8]) -> &[Block] {
         &blocks(image)[1..=self.used]
     }
 
@@ -178,7 +206,7 @@ impl Layout {
 }
 
 /// Tests that the partition is sound and gives its measures.
-fn open(image: &[u8], partition: u8) -> Result<Layout, u32> {
+pub(crate) fn open(image: &[u8], partition: u8) -> Result<Layout, u32> {
     let capacity = capacity(image.len()).ok_or(WRONG_LENGTH)?;
     if image[..MAGIC.len()] != MAGIC {
         return Err(WRONG_MAGIC);
@@ -238,21 +266,21 @@ fn blocks_mut(image: &mut [u8]) -> &mut [Block] {
     image.as_chunks_mut().0
 }
 
-fn number_of(block: &Block) -> u16 {
+pub(crate) fn number_of(block: &Block) -> u16 {
     u16::from_le_bytes([block[0], block[1]])
 }
 
-fn page_of(block: &Block) -> &[u8; PAGE] {
+pub(crate) fn page_of(block: &Block) -> &Page {
     let [_, _, page @ .., _, _] = block;
     page
 }
 
-fn has_right_checksum(block: &Block) -> bool {
+pub(crate) fn has_right_checksum(block: &Block) -> bool {
     let [data @ .., low, high] = block;
     checksum(data) == u16::from_le_bytes([*low, *high])
 }
 
-fn build_block(number: u16, page: &[u8; PAGE]) -> Block {
+fn build_block(number: u16, page: &Page) -> Block {
     let mut block = [0; BLOCK];
     block[..2].copy_from_slice(&number.to_le_bytes());
     block[2..62].copy_from_slice(page);
@@ -262,7 +290,7 @@ fn build_block(number: u16, page: &[u8; PAGE]) -> Block {
 }
 
 /// The contents of a logical block.
-fn find(allocated: &[Block], number: u16) -> Option<&[u8; PAGE]> {
+pub(crate) fn find(allocated: &[Block], number: u16) -> Option<&Page> {
     allocated
         .iter()
         .rev()

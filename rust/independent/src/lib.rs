@@ -6,3 +6,4 @@
 pub mod card;
 mod checksum;
 pub mod flash;
+pub mod slots;

@@ -72,6 +72,24 @@ impl Answer for Result<u64, u32> {
     }
 }
 
+/// A slot, which the C interface tells apart from a live number.
+pub struct SlotAnswer(pub Result<u64, u32>);
+
+impl Answer for SlotAnswer {
+    type Raw = raw::Slot;
+
+    fn number(&self) -> u32 {
+        self.0.number()
+    }
+
+    fn raw(self) -> raw::Slot {
+        match self.0 {
+            Ok(slot) => raw::Slot { code: 0, slot },
+            Err(number) => no_slot(number),
+        }
+    }
+}
+
 impl Answer for Result<u64, Refusal> {
     type Raw = raw::CardChecked;
 
@@ -142,6 +160,11 @@ pub fn no_report(number: u32) -> raw::Report {
 /// What stands beside a refusal's number.
 pub fn no_live(number: u32) -> raw::NextLive {
     raw::NextLive { code: number.into(), number: 0 }
+}
+
+/// What stands beside a refusal's number.
+pub fn no_slot(number: u32) -> raw::Slot {
+    raw::Slot { code: number.into(), slot: 0 }
 }
 
 pub fn checked(verdict: CardVerdict, orphans: u64) -> raw::CardChecked {

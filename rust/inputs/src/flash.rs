@@ -63,17 +63,23 @@ pub fn block_mut(bytes: &mut [u8], place: usize) -> &mut [u8] {
     &mut bytes[place * BLOCK..][..BLOCK]
 }
 
-/// The checksum of the description, bit by bit, put behind a block's first 62 bytes.
+/// Puts the right checksum behind a block's first 62 bytes.
 pub fn seal(block: &mut [u8]) {
+    let sum = checksum(&block[..62]);
+    block[62..].copy_from_slice(&sum.to_le_bytes());
+}
+
+/// The checksum of the description, bit by bit.
+pub fn checksum(bytes: &[u8]) -> u16 {
     let mut sum = 0xffff_u16;
-    for &byte in &block[..62] {
+    for &byte in bytes {
         sum ^= u16::from(byte) << 8;
         for _ in 0..8 {
             let top = sum & 0x8000 != 0;
             sum = (sum << 1) ^ if top { 4_129 } else { 0 };
         }
     }
-    block[62..].copy_from_slice(&(!sum).to_le_bytes());
+    !sum
 }
 
 /// The bit of a user block, or of a place behind the last, which nobody tests.
