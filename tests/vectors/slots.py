@@ -1,5 +1,6 @@
-"""The game slots of partition 3, by document 02 alone, over the model of a partition in flash_runs.py. Run by itself it prints a
-worked header: its two blocks of 60 bytes in hex, as a claim takes them, and then in decimal."""
+"""The game slots of partition 3, by document 02 and the header's fields in source 001, over the model of a partition in
+flash_runs.py. Run by itself it prints a worked header: its two blocks of 60 bytes in hex, as a claim takes them, and then in
+decimal."""
 import flash_runs as flash
 
 SLOTS = range(100)

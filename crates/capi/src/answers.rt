@@ -2,7 +2,7 @@
 use card_model::CopyProtection;
 use flash::LiveNumber;
 use flash::Summary;
-use slots::SlotNumber;
+use slots::GivenSlot;
 use verdicts::Place;
 use verdicts::Verdict;
 ghost use Prim.Native.Nat.{ℕ};
@@ -103,15 +103,15 @@ pub fn next_live_of(next: LiveNumber) -> NextLiveAnswer
 }
 
 // The buffers that the call was lent play no part in what C receives.
-pub fn slot_of(found: SlotNumber) -> SlotAnswer
+pub fn slot_of(found: GivenSlot) -> SlotAnswer
     ensures { λ r. ⌜ ((lent : List (List ℕ)) → r ≡ slotOf (slotAnswer found lent)) ⌝ }
 {
     match found {
-        SlotNumber::Refused(refused) => SlotAnswer {
+        GivenSlot::Refused(refused) => SlotAnswer {
             code: refused as u64,
             slot: 0,
         },
-        SlotNumber::Hit(slot) => SlotAnswer {
+        GivenSlot::Hit(slot) => SlotAnswer {
             code: 0,
             slot: slot as u64,
         },

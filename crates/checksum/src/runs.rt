@@ -1,5 +1,5 @@
-// Runs that six bytes end behind whole words, as the 110 that a slot's checksum is worked over. They are taken in words loaded little
-// endian, four at a time, as a block's are.
+// Runs of whole words of eight bytes with six bytes behind them, as the 110 bytes under a slot's checksum. The words are loaded little
+// endian and taken four at a time, as a block's are.
 use crate::block::Four;
 use crate::block::remainder_of_four;
 use crate::block::take_word;
@@ -10,7 +10,8 @@ ghost use Prim.Native.Nat.{_≤_, _%_};
 ghost use lib.ListN.{length};
 ghost use Rattle.checksum.specs.Crc.{crcFrom};
 
-// The running value after such a run of 38 bytes or more. FFFF at the start is FFFF in the first two bytes.
+// The running value after such a run of 38 bytes or more. To start from FFFF is to start from 0 with the
+// first two bytes inverted.
 pub fn of_run(bytes: &[u8]) -> u16
     requires { ⌜ (38 ≤ length (now bytes)) × (length (now bytes) % 8 ≡ 6) ⌝ }
     ensures { λ r. ⌜ r ≡ crcFrom 65535 (now (bytes .entry)) ⌝ }

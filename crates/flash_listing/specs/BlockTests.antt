@@ -15,7 +15,7 @@ use Rattle.flash_model.specs.Update.{isHolder}
 use Rattle.flash_listing.specs.declared.LowestNumber.{LowestNumber}
 use Rattle.flash_listing.specs.declared.LowestNumber.the-variants.{Hit, Nothing}
 
--- No number has a mark. A mark is 1, and 0 where there is none.
+-- No number has a mark. A mark is any number but 0.
 abbrev pub NoneMarked : List ℕ → Type 0
 NoneMarked marks = (n : ℕ) → getD marks n 0 ≡ 0
 

@@ -50,8 +50,8 @@ module _ (owned : ℕ → Bool) (slot : ℕ) where
         λ f. t .1 (λ n o. owns-header .1 (f (names-data slot block .0 n .0) (names-data slot block .0 n .1) (owns-data block .0 o))),
       )
 
-  slot-owned : (block : ℕ) → ((ownsHeader owned slot && (not (namesData slot block) || owned (dataNumber slot block))) ≡ true) ↔ SlotOwned owned slot block
-  slot-owned block =
+  owned-slot : (block : ℕ) → ((ownsHeader owned slot && (not (namesData slot block) || owned (dataNumber slot block))) ≡ true) ↔ SlotOwned owned slot block
+  owned-slot block =
       let t = owned-test (namesData slot block) (owned (dataNumber slot block)) (ownsHeader owned slot) in (
         λ e. (owns-header .0 (t .0 e .0), λ s b. owns-data block .0 (t .0 e .1 (names-data slot block .1 (s, b)))),
         λ w. t .1 (owns-header .1 (w .0), λ n. owns-data block .1 (w .1 (names-data slot block .0 n .0) (names-data slot block .0 n .1))),
@@ -99,8 +99,8 @@ premises-mean owned = record {
   compound-stands = λ c. refl;
   read-owned = λ partition n buffer. (λ e. e, λ e. e);
   save-owned = λ partition n expected page. (λ e. e, λ e. e);
-  slot-read-owned = λ partition slot block buffer. slot-owned owned slot block;
-  slot-save-owned = λ partition slot block expected page. slot-owned owned slot block;
+  slot-read-owned = λ partition slot block buffer. owned-slot owned slot block;
+  slot-save-owned = λ partition slot block expected page. owned-slot owned slot block;
   read-between = λ partition n buffer. refl;
   slot-read-between = λ partition slot block buffer. refl;
   save-not-between = λ partition n expected page. refl;

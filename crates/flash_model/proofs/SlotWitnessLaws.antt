@@ -254,14 +254,15 @@ module _ (product one other : ℕ → List ℕ) (new newOne newOther : List ℕ)
 -- ---- none
 
 module _ (product one other : List ℕ) (h : HeaderFor product one other) where
-  no-slot : (image : List ℕ) × BlankPartition image one other
-  no-slot =
+  zero-slots : (image : List ℕ) × BlankPartition image one other
+  zero-slots =
       let w = not-vacuous .empty 32768 3 (not-vacuous .three-sizes 32768 .1 (inr (inl refl))) (omega arith) in
       (w .0, of (w .0) (w .1) (w .3))
     where
       of : (image : List ℕ) → Witness 32768 3 image → ((n : ℕ) → contents image n ≡ none) → BlankPartition image one other
       of image w empty = record {
         is-partition = w;
+        none-live = empty;
         none-valid = none-valid;
         is-claimed = claimed;
         is-written = ⊎-elim (λ f. absurd (none-has (gives .0) (f .is-lowest .here))) (λ f. subst (λ (k : ℕ). ClaimWritten image one other image′ k) (lowest-0 f) f) (gives .2);
@@ -416,7 +417,7 @@ pub slots-not-vacuous : SlotsNotVacuous
 slots-not-vacuous = record {
   headers = λ product ten b. (take 60 (headerOf product), drop 60 (headerOf product), header-for product ten b);
   different = different;
-  no-slot = no-slot;
+  zero-slots = zero-slots;
   one-slot = one-slot;
   all-slots = all-slots;
 }

@@ -143,7 +143,8 @@ accepted image c = eqb (codeOf image c) 0
 
 -- ---- what an accepted call gives
 
--- "The report gives version, capacity, used and live." Next-live gives the number found: one, where it is accepted.
+-- "The report gives version, capacity, used and live." Next-live gives the number found, and
+-- find, list and claim a slot: one value, where they are accepted.
 abbrev pub valuesOf : List ℕ → Call → List ℕ
 valuesOf image (onPage p) = []
 valuesOf image (onWhole (check partition)) = []

@@ -29,7 +29,7 @@ OneOf p [] = ⊥
 OneOf p (q ∷ qs) = (p ≡ q) ⊎ OneOf p qs
 
 pub record PremisesMean (owned : ℕ → Bool) : Type 0 where
-  -- every call may stand in a run but a slot read or save on an owned block with a foreign header
+  -- every call may stand in a run but a slot read or save on an owned block whose header blocks are not both owned
   pub none-stand : MayStand owned []
   pub more-stand : (s : Step) (steps : List Step) → callStands owned (s .made) ≡ true → MayStand owned steps → MayStand owned (s ∷ steps)
   pub read-stands : (partition n : ℕ) (buffer : List ℕ) → callStands owned (onPage (read partition n buffer)) ≡ true

@@ -33,7 +33,8 @@ gameHeader =
     ++ (0x53 ∷ 0x45 ∷ 0x54 ∷ 0x54 ∷ 0x49 ∷ 0x4E ∷ 0x47 ∷ 0x53 ∷ replicate 36 32)
     ++ (replicate 4 0 ++ 0x12 ∷ 0x34 ∷ 0x56 ∷ 0x78 ∷ 0x31 ∷ 0x80 ∷ replicate 6 255)
 
--- It is right; wrong with another start, another byte under the checksum, or the checksum's bytes exchanged.
+-- It is right; wrong with another start, another byte under the checksum, or the checksum's bytes exchanged. A byte
+-- behind the checksum is not tested.
 pub header-tests : map rightHeader (gameHeader ∷ set gameHeader 0 2 ∷ set gameHeader 1 0 ∷ set gameHeader 111 1 ∷ set (set gameHeader 112 0x80) 113 0x31 ∷ set gameHeader 114 0 ∷ [])
     ≡ true ∷ false ∷ false ∷ false ∷ false ∷ true ∷ []
 unfolding productNumber gameHeader rightHeader word shift shifts takeByte crcFrom checksumOf
@@ -58,10 +59,10 @@ wholeSlot n = eqb n 32 || (eqb n 33 || (eqb n 34 || eqb n 35))
 abbrev pub slotPart : ℕ → Bool
 slotPart n = eqb n 32 || (eqb n 33 || eqb n 34)
 
-pub slot-owned : map (onOwned wholeSlot) slotReads ++ map (onOwned wholeSlot) slotSaves
+pub whole-owned : map (onOwned wholeSlot) slotReads ++ map (onOwned wholeSlot) slotSaves
     ≡ (true ∷ true ∷ true ∷ false ∷ false ∷ []) ++ true ∷ true ∷ true ∷ false ∷ false ∷ []
 unfolding slotNumber dataNumber
-slot-owned = refl
+whole-owned = refl
 
 pub part-owned : map (onOwned slotPart) slotReads ++ map (onOwned slotPart) slotSaves
     ≡ (true ∷ false ∷ true ∷ false ∷ false ∷ []) ++ true ∷ false ∷ true ∷ false ∷ false ∷ []
@@ -85,9 +86,9 @@ unfolding slotNumber dataNumber
 half-header = refl
 
 -- Reads may stand between, and saves that name no data block.
-pub slot-saves : map isSave (slotReads ++ slotSaves)
+pub which-are-saves : map isSave (slotReads ++ slotSaves)
     ≡ (false ∷ false ∷ false ∷ false ∷ false ∷ []) ++ true ∷ true ∷ false ∷ true ∷ false ∷ []
-slot-saves = refl
+which-are-saves = refl
 
 -- ---- claims
 

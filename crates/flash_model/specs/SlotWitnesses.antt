@@ -4,8 +4,10 @@
 use Prim.Native.Nat.{ℕ, _≤_}
 use mathlib.Core.Path.{_≡_}
 use mathlib.Core.List.{List, _∷_, _++_}
+use mathlib.Core.Option.{none}
 use mathlib.Core.Logic.{_≢_}
 use lib.ListN.{length, take, drop, replicate}
+use Rattle.flash_model.specs.Partition.{contents}
 use Rattle.flash_model.specs.Calls.{codeOf, after}
 use Rattle.flash_model.specs.Calls.{WholeCall.slotFind, CompoundCall.claim, Call.onWhole, Call.onPages}
 use Rattle.flash_model.specs.Demands.{LowestFreeBlank, Bytes, Witness}
@@ -20,9 +22,10 @@ pub record HeaderFor (product one other : List ℕ) : Type 0 where
   pub makes-valid : MakesValid (one ++ other)
   pub product-is : take 10 (drop 2 (one ++ other)) ≡ product
 
--- No slot is valid. A claim writes slot 0.
+-- No number has contents, so no slot is valid. A claim writes slot 0, whose data blocks are missing then.
 pub record BlankPartition (image one other : List ℕ) : Type 0 where
   pub is-partition : Witness 32768 3 image
+  pub none-live : (n : ℕ) → contents image n ≡ none
   pub none-valid : (k : ℕ) → IsSlot image k → ⊥
   pub is-claimed : codeOf image (onPages (claim 3 one other)) ≡ 0
   pub is-written : ClaimWritten image one other (after image (onPages (claim 3 one other))) 0
@@ -49,7 +52,7 @@ pub record AllSlots (image : List ℕ) (product one other : ℕ → List ℕ) (n
 
 pub record SlotsNotVacuous : Type 0 where
   pub headers : (product : List ℕ) → length product ≡ 10 → Bytes product → (one : List ℕ) × (other : List ℕ) × HeaderFor product one other
-  pub no-slot : (product one other : List ℕ) → HeaderFor product one other → (image : List ℕ) × BlankPartition image one other
+  pub zero-slots : (product one other : List ℕ) → HeaderFor product one other → (image : List ℕ) × BlankPartition image one other
   pub one-slot : (slot : ℕ) (product one other new newOne newOther : List ℕ) → slot ≤ 99 → HeaderFor product one other
       → HeaderFor new newOne newOther → product ≢ new
       → (image : List ℕ) × OneSlot image slot product one other newOne newOther

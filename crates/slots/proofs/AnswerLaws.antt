@@ -26,7 +26,7 @@ use Rattle.flash_partition.specs.declared.opening.Opened.the-variants as openin
 use Rattle.flash_partition.proofs.OpenedLaws.{told-refused}
 use Rattle.flash_pages.specs.Rows.{orBuffer}
 use Rattle.slots.specs.SlotAnswers.{slotAnswer, slotOr, dataBuffer, claimedImage}
-use Rattle.slots.specs.declared.SlotNumber.{SlotNumber}
+use Rattle.slots.specs.declared.GivenSlot.{GivenSlot}
 
 -- ---- 1 to 5
 
@@ -62,7 +62,7 @@ module _ (image : List ℕ) (partition : ℕ) (passed : slotRefusal image partit
   unchanged true = refl
   unchanged false = refl
 
-  pub find-done : (product : List ℕ) (r : SlotNumber) → r ≡ slotOr (findRows image product) (productSlot image product)
+  pub find-done : (product : List ℕ) (r : GivenSlot) → r ≡ slotOr (findRows image product) (productSlot image product)
       → Answered image (onWhole (slotFind partition product)) image (slotAnswer r (product ∷ []))
   unfolding codeOf findRows
   find-done product r e =
@@ -75,7 +75,7 @@ module _ (image : List ℕ) (partition : ℕ) (passed : slotRefusal image partit
       })
       (unchanged (eqb (findRows image product) 0)))
 
-  pub list-done : (start : ℕ) (r : SlotNumber) → r ≡ slotOr (row 7 (not (isSome (lowestValid image start))) 0) (lowestValid image start)
+  pub list-done : (start : ℕ) (r : GivenSlot) → r ≡ slotOr (row 7 (not (isSome (lowestValid image start))) 0) (lowestValid image start)
       → Answered image (onWhole (slotList partition start)) image (slotAnswer r [])
   unfolding codeOf
   list-done start r e =
@@ -83,7 +83,7 @@ module _ (image : List ℕ) (partition : ℕ) (passed : slotRefusal image partit
       (record { code-is = rw passed; is-there = λ z. there (lowestValid image start) (row-zero 6 0 _ z .0); values-are = refl; buffers-are = refl })
       (unchanged (eqb (row 7 (not (isSome (lowestValid image start))) 0) 0)))
 
-  pub claim-done : partition ≡ 3 → (one other : List ℕ) (r : SlotNumber) (image′ : List ℕ) → r ≡ slotOr (claimRows image one other) (claimedSlot image (one ++ other))
+  pub claim-done : partition ≡ 3 → (one other : List ℕ) (r : GivenSlot) (image′ : List ℕ) → r ≡ slotOr (claimRows image one other) (claimedSlot image (one ++ other))
       → image′ ≡ claimedImage image one other → Answered image (onPages (claim partition one other)) image′ (slotAnswer r (one ∷ other ∷ []))
   unfolding codeOf claimRows claimedImage
   claim-done p one other r image′ e i =

@@ -1,6 +1,6 @@
 -- A claim: its two saves, each with what stands there as expected. Assumes nothing.
-use Prim.Native.Nat.{ℕ, _+_, _-_, _*_, _≤_}
-use mathlib.Core.Path.{_≡_, refl, ap, subst, _∙_}
+use Prim.Native.Nat.{ℕ, _-_, _≤_}
+use mathlib.Core.Path.{_≡_, refl, ap, _∙_}
 use mathlib.Core.Bool.{true, false, cond}
 use mathlib.Core.List.{List, _++_}
 use mathlib.Core.Option.{none, some}
@@ -13,17 +13,17 @@ use borrow.Author.Tests.{eq-eqb, ne-eqb}
 use Rattle.flash_model.specs.Measures.{topNumber}
 use Rattle.flash_model.specs.Partition.{refusal, contents}
 use Rattle.flash_model.specs.Update.{saved}
-use Rattle.flash_model.specs.Slots.{slotSize, slotPartition, rightHeader, productOf, productSlot, freeSlot, claimedSlot, writtenSlot, pageBytes}
+use Rattle.flash_model.specs.Slots.{slotSize, slotPartition, slotNumber, rightHeader, productOf, productSlot, freeSlot, claimedSlot, writtenSlot, pageBytes}
 use Rattle.flash_model.specs.Calls.{readRows, saveRows, claimRows, codeOf, afterPage, callsMade}
 use Rattle.flash_model.specs.Calls.{PageCall.save, CompoundCall.claim, Call.onPages}
-use Rattle.flash_model.proofs.SlotLaws.{header-first, header-second, open-slot}
+use Rattle.flash_model.proofs.SlotLaws.{open-slot}
 use Rattle.flash_model.proofs.ClaimLaws.{free-most, claim-rows, firstSave, secondSave, FirstDone, first-saved}
 use Rattle.flash_partition.specs.declared.opening.OpenedLog.{OpenedLog}
 use Rattle.flash_pages.specs.Rows.{readBuffer}
 use Rattle.slots.specs.SlotUsable.{SlotUsable}
 use Rattle.slots.specs.SlotAnswers.{slotOr, claimedImage}
-use Rattle.slots.specs.declared.SlotNumber.{SlotNumber}
-use Rattle.slots.specs.declared.SlotNumber.the-variants.{Refused, Hit}
+use Rattle.slots.specs.declared.GivenSlot.{GivenSlot}
+use Rattle.slots.specs.declared.GivenSlot.the-variants.{Refused, Hit}
 use Rattle.slots.proofs.DataLaws.{page-there, page-missing}
 
 -- ---- one save
@@ -51,7 +51,7 @@ module _ (image one other : List ℕ) where
   abbrev product : List ℕ
   product = take 10 (drop 2 (one ++ other))
 
-  abbrev pub ClaimAs : SlotNumber → List ℕ → Type 0
+  abbrev pub ClaimAs : GivenSlot → List ℕ → Type 0
   ClaimAs r image′ = (r ≡ slotOr (claimRows image one other) (claimedSlot image (one ++ other))) × (image′ ≡ claimedImage image one other)
 
   pub first-8 : length one ≢ 60 → ClaimAs (Refused 8) image
@@ -92,20 +92,19 @@ module _ (image one other : List ℕ) where
           first-left = first-saved image 3 one other slot (claim-rows image 3 one other accepted) slot-99
 
           -- the image between is opened again
-          pub opens-between : (between : List ℕ) → between ≡ afterPage image (save 3 (24 + 4 * slot) (pageBytes (contents image (24 + 4 * slot))) one)
+          pub opens-between : {n : ℕ} (between : List ℕ) → n ≡ slotNumber slot 0 → between ≡ afterPage image (save 3 n (pageBytes (contents image n)) one)
               → (refusal between 3 ≡ 0) × (length between ≡ length image)
-          opens-between between e =
-              let b : between ≡ afterPage image (firstSave image 3 one other slot) = e ∙ rw (header-first slot) in
+          opens-between between q e =
+              let b : between ≡ afterPage image (firstSave image 3 one other slot) = e ∙ rw q in
               (ap (λ (i : List ℕ). refusal i 3) b ∙ first-left .unrefused-then, ap length b ∙ first-left .same-length)
 
-          pub claim-free : (between image′ : List ℕ)
-              → between ≡ afterPage image (save 3 (24 + 4 * slot) (pageBytes (contents image (24 + 4 * slot))) one)
-              → image′ ≡ afterPage between (save 3 (25 + 4 * slot) (pageBytes (contents between (25 + 4 * slot))) other)
+          pub claim-free : {n m : ℕ} (between image′ : List ℕ) → n ≡ slotNumber slot 0 → m ≡ slotNumber slot 1
+              → between ≡ afterPage image (save 3 n (pageBytes (contents image n)) one)
+              → image′ ≡ afterPage between (save 3 m (pageBytes (contents between m)) other)
               → ClaimAs (Hit slot) image′
           unfolding claimedImage claimRows claimedSlot callsMade writtenSlot productOf
-          claim-free between image′ e f =
-              let b : between ≡ afterPage image (firstSave image 3 one other slot) = e ∙ rw (header-first slot) in
-              let stands-then : contents between (25 + 4 * slot) ≡ contents image (25 + 4 * slot) =
-              ap (λ (i : List ℕ). contents i (25 + 4 * slot)) b ∙ subst (λ (n : ℕ). contents (afterPage image (firstSave image 3 one other slot)) n ≡ contents image n) (header-second slot) (first-left .second-stands) in
-              let last : image′ ≡ afterPage (afterPage image (firstSave image 3 one other slot)) (secondSave image 3 one other slot) = f ∙ rw (stands-then, b, header-second slot) in
+          claim-free {n} {m} between image′ q r e f =
+              let b : between ≡ afterPage image (firstSave image 3 one other slot) = e ∙ rw q in
+              let stands-then : contents between (slotNumber slot 1) ≡ contents image (slotNumber slot 1) = ap (λ (i : List ℕ). contents i (slotNumber slot 1)) b ∙ first-left .second-stands in
+              let last : image′ ≡ afterPage (afterPage image (firstSave image 3 one other slot)) (secondSave image 3 one other slot) = f ∙ rw (r, stands-then, b) in
               rw (eq-eqb (length one) 60 one-60, eq-eqb (length other) 60 other-60, right, none-has, free) (refl, last)

@@ -1,5 +1,5 @@
 -- Reads and saves of a slot's data blocks: past 8, 42 and 43 they are those of its number. Assumes nothing.
-use Prim.Native.Nat.{ℕ, _+_, _*_, _≤_, _<_}
+use Prim.Native.Nat.{ℕ, _+_, _≤_, _<_}
 use mathlib.Core.Path.{_≡_, refl, sym, ap, _∙_}
 use mathlib.Core.Bool.{Bool, true, false, not, cond}
 use mathlib.Core.List.{List}
@@ -47,18 +47,14 @@ module _ (image : List ℕ) (n : ℕ) (buffer : List ℕ) (legal : n ≤ topNumb
       go none q = q
       go (some page) q = let s : readRows image n buffer ≡ 0 = read-row ∙ rw q in absurd (d (e ∙ s))
 
--- a slot's header blocks are numbers of the partition
-module _ {image : List ℕ} {log : OpenedLog} (u : SlotUsable image log) (slot : ℕ) (most : slot ≤ 99) where
-  size-is : length image ≡ 32768
-  size-is = u .is-usable .has-size ∙ u .has-size
+-- the slots' numbers, up to the last one's 423, are numbers of the partition
+pub in-range : {image : List ℕ} {log : OpenedLog} → SlotUsable image log → {n : ℕ} → n ≤ 423 → n ≤ topNumber (length image)
+unfolding slotSize slotNumber
+in-range {image} u h = omega (arith, h, slot-legal (length image) 99 3 (u .is-usable .has-size ∙ u .has-size) (omega arith) (omega arith))
 
-  pub first-in-range : 24 + 4 * slot ≤ topNumber (length image)
-  unfolding slotSize slotNumber
-  first-in-range = omega (arith, slot-legal (length image) slot 0 size-is most (omega arith))
-
-  pub second-in-range : 25 + 4 * slot ≤ topNumber (length image)
-  unfolding slotSize slotNumber
-  second-in-range = omega (arith, slot-legal (length image) slot 1 size-is most (omega arith))
+pub data-number : (slot block : ℕ) → slotNumber slot (2 + block) ≡ dataNumber slot block
+unfolding dataNumber
+data-number slot block = refl
 
 -- ---- 42 and 43
 

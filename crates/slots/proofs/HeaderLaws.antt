@@ -1,5 +1,5 @@
 -- A slot's header, as the code makes and tests it. Assumes nothing.
-use Prim.Native.Nat.{ℕ, zero, suc, _+_, _*_, _≤_, _<_}
+use Prim.Native.Nat.{ℕ, zero, suc, _≤_, _<_}
 use mathlib.Core.Path.{_≡_, refl, sym, ap, subst, _∙_}
 use mathlib.Core.Bool.{Bool, true, false, and-false, false≢true}
 use mathlib.Core.List.{List, _++_, append-nil}
@@ -18,7 +18,6 @@ use Rattle.flash_model.specs.UserBlock.{payload}
 use Rattle.flash_model.specs.Partition.{blockAt, holder, contents}
 use Rattle.flash_model.specs.Slots.{slotNumber, joined, slotHeader, rightHeader, isRight, validSlot}
 use Rattle.flash_model.proofs.HolderLaws.{holder-held}
-use Rattle.flash_model.proofs.SlotLaws.{header-first, header-second}
 use Rattle.flash_listing.specs.NumberPlaces.{placeOf}
 use Rattle.slots.specs.HeaderBlocks.{pageIn, headerIn}
 use Rattle.slots.specs.SlotUsable.{SlotPlaces}
@@ -113,26 +112,25 @@ module _ (image : List ℕ) where
     placed-high n h = subst (λ (k : ℕ). k ≤ capacity size) (sym (p .each n h)) (subst (λ (s : ℕ). placeOf (holder image n) ≤ capacity s) (p .has-measures .has-size) (place-high n))
 
     -- it is the one in the blocks that the places name
-    pub header-placed : (slot : ℕ) → slot < 100 → headerIn image (getD places (24 + 4 * slot) 0) (getD places (25 + 4 * slot) 0) ≡ slotHeader image slot
+    pub header-placed : (slot : ℕ) {n m : ℕ} → n ≡ slotNumber slot 0 → m ≡ slotNumber slot 1 → n < 510 → m < 510
+        → headerIn image (getD places n 0) (getD places m 0) ≡ slotHeader image slot
     unfolding headerIn slotHeader
-    header-placed slot h =
-        let one = p .each (24 + 4 * slot) (omega (arith, h)) in
-        let other = p .each (25 + 4 * slot) (omega (arith, h)) in
-        sym (rw (header-first slot, header-second slot, contents-place (24 + 4 * slot), contents-place (25 + 4 * slot), one, other))
+    header-placed slot {n} {m} e f h l = sym (rw (sym e, sym f, contents-place n, contents-place m, p .each n h, p .each m l))
 
   module _ (slot : ℕ) where
-    pub first-missing : contents image (24 + 4 * slot) ≡ none → false ≡ validSlot image slot
+    pub first-missing : {n : ℕ} → n ≡ slotNumber slot 0 → contents image n ≡ none → false ≡ validSlot image slot
     unfolding validSlot slotHeader
-    first-missing e = rw (header-first slot, e)
+    first-missing q e = rw (sym q, e)
 
-    pub second-missing : contents image (25 + 4 * slot) ≡ none → false ≡ validSlot image slot
+    pub second-missing : {n : ℕ} → n ≡ slotNumber slot 1 → contents image n ≡ none → false ≡ validSlot image slot
     unfolding validSlot slotHeader
-    second-missing e = rw (header-second slot, e) (go (contents image (slotNumber slot 0)))
+    second-missing q e = rw (sym q, e) (go (contents image (slotNumber slot 0)))
       where
         go : (o : Option (List ℕ)) → false ≡ isRight (joined o none)
         go none = refl
         go (some page) = refl
 
-    pub both-valid : {one other : List ℕ} → contents image (24 + 4 * slot) ≡ some one → contents image (25 + 4 * slot) ≡ some other → rightHeader (one ++ other) ≡ validSlot image slot
+    pub both-valid : {n m : ℕ} {one other : List ℕ} → n ≡ slotNumber slot 0 → m ≡ slotNumber slot 1 → contents image n ≡ some one → contents image m ≡ some other
+        → rightHeader (one ++ other) ≡ validSlot image slot
     unfolding validSlot slotHeader
-    both-valid e f = rw (header-first slot, header-second slot, e, f)
+    both-valid q r e f = rw (sym q, sym r, e, f)

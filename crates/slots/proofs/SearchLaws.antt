@@ -24,8 +24,8 @@ use Rattle.flash_partition.proofs.UsableLaws.{usable-has}
 use Rattle.flash_listing.specs.NumberPlaces.{PlacesOf}
 use Rattle.slots.specs.SlotUsable.{SlotUsable, SlotPlaces}
 use Rattle.slots.specs.SlotAnswers.{searchedOf, slotOr}
-use Rattle.slots.specs.declared.SlotNumber.{SlotNumber}
-use Rattle.slots.specs.declared.SlotNumber.the-variants.{Refused, Hit}
+use Rattle.slots.specs.declared.GivenSlot.{GivenSlot}
+use Rattle.slots.specs.declared.GivenSlot.the-variants.{Refused, Hit}
 use Rattle.slots.specs.declared.searches.Searched.{Searched}
 use Rattle.slots.specs.declared.searches.Searched.the-variants.{Has, Free, Full}
 
@@ -171,7 +171,7 @@ module _ (image product : List ℕ) where
 
   -- ---- a find
 
-  abbrev FoundAs : SlotNumber → Type 0
+  abbrev FoundAs : GivenSlot → Type 0
   FoundAs r = r ≡ slotOr (findRows image product) (productSlot image product)
 
   pub find-8 : length product ≢ 10 → FoundAs (Refused 8)
@@ -223,7 +223,7 @@ module _ (image : List ℕ) (start : ℕ) where
   pub record NextAt (slot : ℕ) : Type 0 where
     pub not-yet : lowestValid image start ≡ lowest (validSlot image) slot (slotCount - slot)
 
-  abbrev Answers : SlotNumber → Type 0
+  abbrev Answers : GivenSlot → Type 0
   Answers r = r ≡ slotOr (row 7 (not (isSome (lowestValid image start))) 0) (lowestValid image start)
 
   pub next-first : NextAt start

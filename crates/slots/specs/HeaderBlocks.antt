@@ -13,4 +13,4 @@ pageIn image zero = none
 pageIn image (suc k) = some (payload (blockAt image (suc k)))
 
 unfoldable pub headerIn : List ℕ → ℕ → ℕ → Option (List ℕ)
-headerIn image one other = joined (pageIn image one) (pageIn image other)
+headerIn image k l = joined (pageIn image k) (pageIn image l)

@@ -10,20 +10,20 @@ use Rattle.flash_model.specs.Slots.{dataNumber}
 use Rattle.flash_model.specs.Calls.{Reply, codeAnswer, slotReadRows, claimRows, afterPages, callsMade}
 use Rattle.flash_model.specs.Calls.{CompoundCall.claim}
 use Rattle.flash_pages.specs.Rows.{orBuffer}
-use Rattle.slots.specs.declared.SlotNumber.{SlotNumber}
-use Rattle.slots.specs.declared.SlotNumber.the-variants.{Refused, Hit}
+use Rattle.slots.specs.declared.GivenSlot.{GivenSlot}
+use Rattle.slots.specs.declared.GivenSlot.the-variants.{Refused, Hit}
 use Rattle.slots.specs.declared.searches.Searched.{Searched}
 use Rattle.slots.specs.declared.searches.Searched.the-variants.{Has, Free, Full}
 
 -- A slot, or the refusal alone, with these buffers.
-abbrev pub slotAnswer : SlotNumber → List (List ℕ) → Reply
+abbrev pub slotAnswer : GivenSlot → List (List ℕ) → Reply
 slotAnswer (Refused n) lent = codeAnswer n lent
 slotAnswer (Hit slot) lent = record { code = 0; values = slot ∷ []; buffers = lent }
 
 -- ---- past refusals 1 to 5
 
 -- The refusal of the rows, or the slot that was found: where the rows let pass there is one.
-abbrev pub slotOr : ℕ → Option ℕ → SlotNumber
+abbrev pub slotOr : ℕ → Option ℕ → GivenSlot
 slotOr zero none = Refused 0
 slotOr zero (some slot) = Hit slot
 slotOr (suc n) found = Refused (suc n)

@@ -2,6 +2,7 @@
 use crate::DataBlock;
 use crate::headers::HEADER_BYTES;
 use crate::headers::right_header;
+use crate::numbers::slot_number;
 use flash_pages::read_page;
 use flash_pages::save_page;
 use flash_pages::wrong_lengths;
@@ -17,16 +18,16 @@ ghost use Rattle.flash_model.specs.Update.{saved};
 ghost use Rattle.slots.specs.SlotUsable.{SlotUsable};
 ghost use Rattle.slots.specs.SlotAnswers.{dataBuffer};
 
-// Whether the slot is valid. Its pages are read into `header`.
+// Whether the slot is valid. `header` is working space: what is left in it is not used.
 fn valid_slot(image: &[u8], log: OpenedLog, slot: usize, header: &mut [u8]) -> bool
     requires { ⌜ SlotUsable (now image) log ⌝ }
     requires { ⌜ (slot ≤ 99) × (length (now header) ≡ 120) ⌝ }
     ensures { λ r. ⌜ r ≡ validSlot (now (image .entry)) slot ⌝ }
 {
-    if read_page(image, log, 24 + 4 * slot, &mut header[0..60]) != 0 {
+    if read_page(image, log, slot_number(slot, 0), &mut header[0..60]) != 0 {
         return false;
     }
-    if read_page(image, log, 25 + 4 * slot, &mut header[60..120]) != 0 {
+    if read_page(image, log, slot_number(slot, 1), &mut header[60..120]) != 0 {
         return false;
     }
     right_header(&header[..])
@@ -63,7 +64,7 @@ pub(crate) fn read_data(image: &[u8], log: OpenedLog, at: DataBlock, page: &mut 
     if code != 0 {
         return code;
     }
-    read_page(image, log, 26 + 4 * at.slot + at.block, page)
+    read_page(image, log, slot_number(at.slot, 2 + at.block), page)
 }
 
 // Saves a page as a data block: refusals 8, 42, 43 and 9, or 0.
@@ -85,5 +86,6 @@ pub(crate) fn save_data(
     if code != 0 {
         return code;
     }
-    save_page(image, log, 26 + 4 * at.slot + at.block, expected, page)
+    let number = slot_number(at.slot, 2 + at.block);
+    save_page(image, log, number, expected, page)
 }

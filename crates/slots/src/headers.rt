@@ -40,26 +40,20 @@ pub(crate) fn right_header(header: &[u8]) -> bool
 }
 
 // Whether the header in these two blocks, 0 being none, makes a slot valid. It is left in `header` where it does.
-pub(crate) fn valid_header(
-    image: &[u8],
-    m: Measures,
-    one: usize,
-    other: usize,
-    header: &mut [u8],
-) -> bool
+pub(crate) fn valid_header(image: &[u8], m: Measures, k: usize, l: usize, header: &mut [u8]) -> bool
     requires { ⌜ HasMeasures (now image) (m .size) ⌝ }
-    requires { ⌜ (one ≤ capacity (m .size)) × (other ≤ capacity (m .size)) × (length (now header) ≡ 120) ⌝ }
-    ensures { λ r. ⌜ r ≡ isRight (headerIn (now (image .entry)) one other) ⌝ }
-    ensures { λ r. ⌜ (r ≡ true → headerIn (now (image .entry)) one other ≡ some (now (header .exit))) ⌝ }
+    requires { ⌜ (k ≤ capacity (m .size)) × (l ≤ capacity (m .size)) × (length (now header) ≡ 120) ⌝ }
+    ensures { λ r. ⌜ r ≡ isRight (headerIn (now (image .entry)) k l) ⌝ }
+    ensures { λ r. ⌜ (r ≡ true → headerIn (now (image .entry)) k l ≡ some (now (header .exit))) ⌝ }
 {
-    if one == 0 {
+    if k == 0 {
         return false;
     }
-    if other == 0 {
+    if l == 0 {
         return false;
     }
-    let first = block_at(image, m, one);
-    let second = block_at(image, m, other);
+    let first = block_at(image, m, k);
+    let second = block_at(image, m, l);
     join_pages(&first[2..62], &second[2..62], header);
     right_header(&header[..])
 }

@@ -4,6 +4,7 @@
 // 02's order 4, and then nothing has changed. No call asks anything of what it is lent.
 mod data;
 mod headers;
+mod numbers;
 mod opening;
 mod searches;
 mod writing;
@@ -15,7 +16,7 @@ ghost use Rattle.flash_model.specs.Calls.{Answered, codeAnswer, Call.onPage, Ca
 ghost use Rattle.slots.specs.SlotAnswers.{slotAnswer};
 
 // A slot, or the number of the refusal.
-pub enum SlotNumber {
+pub enum GivenSlot {
     Refused(u8),
     Hit(usize),
 }
@@ -27,31 +28,31 @@ pub struct DataBlock {
 }
 
 // The lowest valid slot with this product number.
-pub fn find(image: &[u8], partition: u8, product: &[u8]) -> SlotNumber
+pub fn find(image: &[u8], partition: u8, product: &[u8]) -> GivenSlot
     ensures { λ r. ⌜ Answered (now (image .entry)) (onWhole (slotFind partition (now (product .entry)))) (now (image .entry)) (slotAnswer r (now (product .entry) ∷ [])) ⌝ }
 {
     match open_slots(image, partition) {
-        Opened::Refused(code) => SlotNumber::Refused(code),
+        Opened::Refused(code) => GivenSlot::Refused(code),
         Opened::Ready(log) => searches::find_product(image, log, product),
     }
 }
 
 // The lowest valid slot not below `from`.
-pub fn list(image: &[u8], partition: u8, from: usize) -> SlotNumber
+pub fn list(image: &[u8], partition: u8, from: usize) -> GivenSlot
     ensures { λ r. ⌜ Answered (now (image .entry)) (onWhole (slotList partition from)) (now (image .entry)) (slotAnswer r []) ⌝ }
 {
     match open_slots(image, partition) {
-        Opened::Refused(code) => SlotNumber::Refused(code),
+        Opened::Refused(code) => GivenSlot::Refused(code),
         Opened::Ready(log) => searches::next_valid(image, log, from),
     }
 }
 
 // The slot that has this header's product number, or else the lowest one that is not valid, which then has this header.
-pub fn claim(image: &mut [u8], partition: u8, first: &[u8], second: &[u8]) -> SlotNumber
+pub fn claim(image: &mut [u8], partition: u8, first: &[u8], second: &[u8]) -> GivenSlot
     ensures { λ r. ⌜ Answered (now (image .entry)) (onPages (claim partition (now (first .entry)) (now (second .entry)))) (now (image .exit)) (slotAnswer r (now (first .entry) ∷ now (second .entry) ∷ [])) ⌝ }
 {
     match open_slots(&image[..], partition) {
-        Opened::Refused(code) => SlotNumber::Refused(code),
+        Opened::Refused(code) => GivenSlot::Refused(code),
         Opened::Ready(log) => writing::claim_slot(image, log, first, second),
     }
 }

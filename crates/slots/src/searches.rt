@@ -1,7 +1,8 @@
 // The searches over all slots: one pass over the blocks finds the place of every number, then each header is looked at once.
-use crate::SlotNumber;
+use crate::GivenSlot;
 use crate::headers::HEADER_BYTES;
 use crate::headers::valid_header;
+use crate::numbers::slot_number;
 use flash_listing::places::find_places;
 use flash_measures::Measures;
 use flash_partition::opening::OpenedLog;
@@ -18,10 +19,10 @@ ghost use Rattle.flash_model.specs.Slots.{slotHeader, validSlot, productSlot, f
 ghost use Rattle.slots.specs.SlotUsable.{SlotUsable, SlotPlaces};
 ghost use Rattle.slots.specs.SlotAnswers.{searchedOf, slotOr};
 
-pub(crate) const SLOTS: usize = 100;
+const SLOTS: usize = 100;
 
 // How many logical numbers a partition with slots has.
-const NUMBERS: usize = 510;
+const SLOT_PARTITION_NUMBERS: usize = 510;
 
 // What a search for a product number finds: a slot that has it, else the lowest one that is not valid, else neither.
 pub(crate) enum Searched {
@@ -37,8 +38,8 @@ fn slot_header(image: &[u8], m: Measures, places: &[u16], slot: usize, header: &
     ensures { λ r. ⌜ r ≡ validSlot (now (image .entry)) slot ⌝ }
     ensures { λ r. ⌜ (r ≡ true → slotHeader (now (image .entry)) slot ≡ some (now (header .exit))) ⌝ }
 {
-    let one = places[24 + 4 * slot] as usize;
-    let other = places[25 + 4 * slot] as usize;
+    let one = places[slot_number(slot, 0)] as usize;
+    let other = places[slot_number(slot, 1)] as usize;
     valid_header(image, m, one, other, header)
 }
 
@@ -47,7 +48,7 @@ pub(crate) fn search(image: &[u8], log: OpenedLog, product: &[u8]) -> Searched
     requires { ⌜ SlotUsable (now image) log ⌝ }
     ensures { λ r. ⌜ r ≡ searchedOf (productSlot (now (image .entry)) (now (product .entry))) (freeSlot (now (image .entry))) ⌝ }
 {
-    let mut places = [0u16; NUMBERS];
+    let mut places = [0u16; SLOT_PARTITION_NUMBERS];
     find_places(image, log, &mut places);
     let mut header = [0u8; HEADER_BYTES];
     let mut free = SLOTS;
@@ -69,34 +70,34 @@ pub(crate) fn search(image: &[u8], log: OpenedLog, product: &[u8]) -> Searched
 }
 
 // The lowest valid slot with the product number: 8 or 7 where there is none.
-pub(crate) fn find_product(image: &[u8], log: OpenedLog, product: &[u8]) -> SlotNumber
+pub(crate) fn find_product(image: &[u8], log: OpenedLog, product: &[u8]) -> GivenSlot
     requires { ⌜ SlotUsable (now image) log ⌝ }
     ensures { λ r. ⌜ r ≡ slotOr (findRows (now (image .entry)) (now (product .entry))) (productSlot (now (image .entry)) (now (product .entry))) ⌝ }
 {
     if product.len() != 10 {
-        return SlotNumber::Refused(8);
+        return GivenSlot::Refused(8);
     }
     match search(image, log, product) {
-        Searched::Has(slot) => SlotNumber::Hit(slot),
-        Searched::Free(_) => SlotNumber::Refused(7),
-        Searched::Full => SlotNumber::Refused(7),
+        Searched::Has(slot) => GivenSlot::Hit(slot),
+        Searched::Free(_) => GivenSlot::Refused(7),
+        Searched::Full => GivenSlot::Refused(7),
     }
 }
 
 // The lowest valid slot not below `from`: 7 where there is none.
-pub(crate) fn next_valid(image: &[u8], log: OpenedLog, from: usize) -> SlotNumber
+pub(crate) fn next_valid(image: &[u8], log: OpenedLog, from: usize) -> GivenSlot
     requires { ⌜ SlotUsable (now image) log ⌝ }
     ensures { λ r. ⌜ r ≡ slotOr (row 7 (not (isSome (lowestValid (now (image .entry)) from))) 0) (lowestValid (now (image .entry)) from) ⌝ }
 {
-    let mut places = [0u16; NUMBERS];
+    let mut places = [0u16; SLOT_PARTITION_NUMBERS];
     find_places(image, log, &mut places);
     let mut header = [0u8; HEADER_BYTES];
     let mut slot = from;
     while slot < SLOTS {
         if slot_header(image, log.m, &places, slot, &mut header) {
-            return SlotNumber::Hit(slot);
+            return GivenSlot::Hit(slot);
         }
         slot += 1;
     }
-    SlotNumber::Refused(7)
+    GivenSlot::Refused(7)
 }

@@ -1,11 +1,10 @@
 -- `data::read_data` meets its contract. Assumes nothing.
 use Prim.Native.Nat.{ℕ}
-use mathlib.Core.Path.{sym, ap, _∙_}
+use mathlib.Core.Path.{ap, _∙_}
 use native.Mathlib.Omega.{arith}
 use Rattle.flash_model.specs.Calls.{readRows}
-use Rattle.flash_model.proofs.SlotLaws.{data-is}
 use Rattle.flash_pages.specs.Rows.{readBuffer}
-use Rattle.slots.proofs.DataLaws.{NamesBlock, names-block, data-8, data-refused, data-read}
+use Rattle.slots.proofs.DataLaws.{data-number, NamesBlock, names-block, data-8, data-refused, data-read}
 use borrow.Author.Needs.{needs}
 use Rattle.slots.proofs.data.read_data.Statement.{statement}
 use Rattle.slots.proofs.data.read_data.Tie as tie
@@ -33,14 +32,11 @@ returns-2 c =
     let a = start (r .before) in
     data-refused (a .args .image .now) (a .args .at .slot) (a .args .at .block) (a .args .page .now) (r .before .if1 .left) (r .slot-row .ensures) (c .if2 .taken)
 
-mul-read-page : tie.Need-mul-read-page
-mul-read-page c = omega (arith, named (c .before) .slot-most)
+add-slot-number : tie.Need-add-slot-number
+add-slot-number c = omega (arith, named (c .before) .block-0-1)
 
-add-read-page : tie.Need-add-read-page
-add-read-page c = omega (arith, named (c .before) .slot-most)
-
-add-read-page-2 : tie.Need-add-read-page-2
-add-read-page-2 c = omega (arith, named (c .before .before) .slot-most, named (c .before .before) .block-0-1)
+slot-number-requires : tie.Need-slot-number-requires
+slot-number-requires c κs = let b = named (c .before) .block-0-1 in (named (c .before) .slot-most, omega (arith, b))
 
 read-page-requires : tie.Need-read-page-requires
 read-page-requires c κs = start (past-8 (c .before .before .before)) .pre .is-usable
@@ -50,10 +46,10 @@ returns-3 c =
     let r = c .before .before in
     let e = r .before .before .before .before in
     let a = start (past-8 e) in
-    let n = data-is (a .args .at .slot) (a .args .at .block) in
+    let n = r .before .before .slot-number .ensures .0 ∙ data-number (a .args .at .slot) (a .args .at .block) in
     data-read (a .args .image .now) (a .args .at .slot) (a .args .at .block) (a .args .page .now) (past-8 e .if1 .left) (a .pre) (named e)
-    (r .read-page .ensures .0 ∙ ap (λ (k : ℕ). readRows (a .args .image .now) k (a .args .page .now)) (sym n))
-    (r .read-page .ensures .1 ∙ ap (λ (k : ℕ). readBuffer (a .args .image .now) k (a .args .page .now)) (sym n))
+    (r .read-page .ensures .0 ∙ ap (λ (k : ℕ). readRows (a .args .image .now) k (a .args .page .now)) n)
+    (r .read-page .ensures .1 ∙ ap (λ (k : ℕ). readBuffer (a .args .image .now) k (a .args .page .now)) n)
 
 pub read-data-spec : {M : Type 1} → statement M
 read-data-spec =
@@ -62,9 +58,8 @@ read-data-spec =
     returns
     slot-row-requires
     returns-2
-    mul-read-page
-    add-read-page
-    add-read-page-2
+    add-slot-number
+    slot-number-requires
     read-page-requires
     (λ c. search needs)
     returns-3)

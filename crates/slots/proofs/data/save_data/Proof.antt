@@ -6,8 +6,7 @@ use native.Mathlib.Omega.{arith}
 use lib.Dec.{eqb}
 use Rattle.flash_model.specs.Update.{saved}
 use Rattle.flash_model.specs.Calls.{saveRows}
-use Rattle.flash_model.proofs.SlotLaws.{data-is}
-use Rattle.slots.proofs.DataLaws.{NamesBlock, names-block, save-8, save-refused, data-saved}
+use Rattle.slots.proofs.DataLaws.{data-number, NamesBlock, names-block, save-8, save-refused, data-saved}
 use borrow.Author.Needs.{needs}
 use Rattle.slots.proofs.data.save_data.Statement.{statement}
 use Rattle.slots.proofs.data.save_data.Tie as tie
@@ -37,14 +36,11 @@ returns-2 c =
     save-refused (a .args .image .now) (a .args .at .slot) (a .args .at .block) (a .args .expected .now) (a .args .page .now) (sym (e .before .wrong-lengths .ensures) ∙ e .if1 .left)
     (r .slot-row .ensures) (c .if2 .taken)
 
-mul-save-page : tie.Need-mul-save-page
-mul-save-page c = omega (arith, named (c .before .before) .slot-most)
+add-slot-number : tie.Need-add-slot-number
+add-slot-number c = omega (arith, named (c .before) .block-0-1)
 
-add-save-page : tie.Need-add-save-page
-add-save-page c = omega (arith, named (c .before .before) .slot-most)
-
-add-save-page-2 : tie.Need-add-save-page-2
-add-save-page-2 c = omega (arith, named (c .before .before .before) .slot-most, named (c .before .before .before) .block-0-1)
+slot-number-requires : tie.Need-slot-number-requires
+slot-number-requires c κs = let b = named (c .before) .block-0-1 in (named (c .before) .slot-most, omega (arith, b))
 
 save-page-requires : tie.Need-save-page-requires
 save-page-requires c κs = start (past-8 (c .before .before .before)) .pre .is-usable
@@ -55,10 +51,10 @@ returns-3 c =
     let e = r .before .before .before .before in
     let l = past-8 e in
     let a = start l in
-    let n = data-is (a .args .at .slot) (a .args .at .block) in
+    let n = r .before .before .slot-number .ensures .0 ∙ data-number (a .args .at .slot) (a .args .at .block) in
     data-saved (a .args .image .now) (a .args .at .slot) (a .args .at .block) (a .args .expected .now) (a .args .page .now) (sym (l .before .wrong-lengths .ensures) ∙ l .if1 .left) (a .pre) (named e)
-    (subst (λ (k : ℕ). r .save-page .result ≡ saveRows (a .args .image .now) k (a .args .expected .now) (a .args .page .now)) (sym n) (r .save-page .ensures .0))
-    (subst (λ (k : ℕ). r .save-page .last .0 ≡ cond (eqb (saveRows (a .args .image .now) k (a .args .expected .now) (a .args .page .now)) 0) (saved (a .args .image .now) k (a .args .page .now)) (a .args .image .now)) (sym n)
+    (subst (λ (k : ℕ). r .save-page .result ≡ saveRows (a .args .image .now) k (a .args .expected .now) (a .args .page .now)) n (r .save-page .ensures .0))
+    (subst (λ (k : ℕ). r .save-page .last .0 ≡ cond (eqb (saveRows (a .args .image .now) k (a .args .expected .now) (a .args .page .now)) 0) (saved (a .args .image .now) k (a .args .page .now)) (a .args .image .now)) n
     (r .save-page .ensures .1))
 
 pub save-data-spec : {M : Type 1} → statement M
@@ -70,9 +66,8 @@ save-data-spec =
     slot-row-requires
     (λ c. search needs)
     returns-2
-    mul-save-page
-    add-save-page
-    add-save-page-2
+    add-slot-number
+    slot-number-requires
     save-page-requires
     (λ c. search needs)
     returns-3)

@@ -15,12 +15,12 @@ start c = c .before .before .before
 returns : tie.Need-returns
 returns c =
     let a = c .before .before .before in
-    no-first (a .args .image .now) (a .args .one) (a .args .other) _ (c .if1 .taken)
+    no-first (a .args .image .now) (a .args .k) (a .args .l) _ (c .if1 .taken)
 
 returns-2 : tie.Need-returns-2
 returns-2 c =
     let a = start (c .before) in
-    no-second (a .args .image .now) (a .args .one) (a .args .other) _ (c .if2 .taken)
+    no-second (a .args .image .now) (a .args .k) (a .args .l) _ (c .if2 .taken)
 
 block-at-requires : tie.Need-block-at-requires
 block-at-requires c κs =
@@ -39,9 +39,9 @@ returns-3 c =
     let first = second .before in
     let e = first .before in
     let a = start (e .before) in
-    let pages : _ ≡ payload (blockAt (a .args .image .now) (a .args .one)) ++ payload (blockAt (a .args .image .now) (a .args .other)) =
+    let pages : _ ≡ payload (blockAt (a .args .image .now) (a .args .k)) ++ payload (blockAt (a .args .image .now) (a .args .l)) =
     j .join-pages .ensures ∙ rw (payload-part _ _ (first .block-at .ensures .0), payload-part _ _ (second .block-at2 .ensures .0)) in
-    both-there (a .args .image .now) (a .args .one) (a .args .other) _ _ (e .before .if1 .left) (e .if2 .left) pages (c .right-header .ensures)
+    both-there (a .args .image .now) (a .args .k) (a .args .l) _ _ (e .before .if1 .left) (e .if2 .left) pages (c .right-header .ensures)
 
 pub valid-header-spec : {M : Type 1} → statement M
 valid-header-spec =

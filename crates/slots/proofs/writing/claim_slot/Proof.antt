@@ -1,5 +1,5 @@
 -- `writing::claim_slot` meets its contract: each `return` is a row, or the slot that the claim gives. Assumes nothing.
-use Prim.Native.Nat.{ℕ, _+_, _*_, _≤_}
+use Prim.Native.Nat.{ℕ, _≤_}
 use mathlib.Core.Path.{_≡_, refl, sym, ap, subst, _∙_}
 use mathlib.Core.Bool.{true}
 use mathlib.Core.List.{List, _++_}
@@ -12,7 +12,7 @@ use Rattle.flash_model.specs.Partition.{refusal}
 use Rattle.flash_model.specs.Slots.{rightHeader, productSlot, freeSlot}
 use Rattle.slots.specs.SlotAnswers.{searchedOf}
 use Rattle.slots.proofs.SearchLaws.{Found, told-has, told-free, told-full}
-use Rattle.slots.proofs.DataLaws.{first-in-range, second-in-range}
+use Rattle.slots.proofs.DataLaws.{in-range}
 use Rattle.slots.proofs.ClaimLaws.{first-8, second-8, claim-41, claim-40, claim-has, slot-99, opens-between, claim-free}
 use borrow.Author.Needs.{needs}
 use Rattle.slots.proofs.writing.claim_slot.Statement.{statement}
@@ -42,10 +42,10 @@ abbrev searched : tie.After-slot2 → tie.After-search
 searched k = k .before .before
 
 abbrev chosen : tie.After-save-over → tie.After-slot2
-chosen o = o .before .before .before
+chosen o = o .before .before .before .before
 
 abbrev saved-once : tie.After-save-over2 → tie.After-save-over
-saved-once p = p .before .before .before .before
+saved-once p = p .before .before .before .before .before
 
 -- the header is the two blocks
 header-is : (c : tie.After-right-header) → c .right-header .result ≡ rightHeader (start (sixty (lengths (joined c))) .args .first .now ++ start (sixty (lengths (joined c))) .args .second .now)
@@ -85,7 +85,8 @@ between-is : (o : tie.After-save-over) → (refusal (o .save-over .last .0) 3 �
 between-is o =
     let k = chosen o in
     let s = searched k in
-    opens-between (begin s .args .image .now) (begin s .args .first .now) (begin s .args .second .now) (ones s) (others s) (is-right (right s)) (begin s .pre) (freed k .0) (freed k .1) _ (o .save-over .ensures)
+    opens-between (begin s .args .image .now) (begin s .args .first .now) (begin s .args .second .now) (ones s) (others s) (is-right (right s)) (begin s .pre) (freed k .0) (freed k .1) _ (o .before .slot-number .ensures .0)
+    (o .save-over .ensures)
 
 returns : tie.Need-returns
 returns c = first-8 _ _ _ (c .if1 .taken)
@@ -116,32 +117,24 @@ part-search-end c = omega (arith, long (joined (c .before .before .before)))
 search-requires : tie.Need-search-requires
 search-requires c κs = start (sixty (lengths (joined (c .before .before .before .before)))) .pre
 
+slot-number-requires : tie.Need-slot-number-requires
+slot-number-requires c κs = (few (c .before .before), omega arith)
+
 save-over-requires : tie.Need-save-over-requires
 save-over-requires c κs =
-    let k = c .before .before in
-    let a = begin (searched k) in
-    (a .pre .unrefused, (first-in-range (a .pre) (k .slot2 .given .0 .0) (few k), ones (searched k)))
+    let s = searched (c .before .before .before) in
+    let u = begin s .pre in
+    (u .unrefused, (in-range u (c .slot-number .ensures .1), ones s))
+
+slot-number-requires-2 : tie.Need-slot-number-requires-2
+slot-number-requires-2 c κs = (few (chosen (c .before .before .before)), omega arith)
 
 save-over-requires-2 : tie.Need-save-over-requires-2
 save-over-requires-2 c κs =
-    let o = c .before .before .before in
-    let k = chosen o in
-    let s = searched k in
-    let a = begin s in
+    let o = c .before .before .before .before in
+    let s = searched (chosen o) in
     let b = between-is o in
-    (b .0, (subst (λ (n : ℕ). 25 + 4 * k .slot2 .given .0 .0 ≤ topNumber n) (sym (b .1)) (second-in-range (a .pre) (k .slot2 .given .0 .0) (few k)), others s))
-
-mul-save-over : tie.Need-mul-save-over
-mul-save-over c = omega (arith, few (c .before .before))
-
-add-save-over : tie.Need-add-save-over
-add-save-over c = omega (arith, few (c .before .before))
-
-mul-save-over-2 : tie.Need-mul-save-over-2
-mul-save-over-2 c = omega (arith, few (chosen (c .before .before .before)))
-
-add-save-over-2 : tie.Need-add-save-over-2
-add-save-over-2 c = omega (arith, few (chosen (c .before .before .before)))
+    (b .0, (subst (λ (n : ℕ). c .slot-number2 .result ≤ topNumber n) (sym (b .1)) (in-range (begin s .pre) (c .slot-number2 .ensures .1)), others s))
 
 returns-4 : tie.Need-returns-4
 returns-4 c =
@@ -159,7 +152,8 @@ returns-6 c =
     let o = saved-once p in
     let k = chosen o in
     let s = searched k in
-    claim-free _ _ _ (ones s) (others s) (is-right (right s)) (begin s .pre) (freed k .0) (freed k .1) _ _ (o .save-over .ensures) (p .save-over2 .ensures)
+    claim-free _ _ _ (ones s) (others s) (is-right (right s)) (begin s .pre) (freed k .0) (freed k .1) _ _
+    (o .before .slot-number .ensures .0) (p .before .slot-number2 .ensures .0) (o .save-over .ensures) (p .save-over2 .ensures)
 
 pub claim-slot-spec : {M : Type 1} → statement M
 claim-slot-spec =
@@ -179,11 +173,9 @@ claim-slot-spec =
     (λ c. search needs)
     (λ c. search needs)
     (λ c. search needs)
-    mul-save-over
-    add-save-over
+    slot-number-requires
     save-over-requires
-    mul-save-over-2
-    add-save-over-2
+    slot-number-requires-2
     save-over-requires-2
     (λ c. search needs)
     returns-4
