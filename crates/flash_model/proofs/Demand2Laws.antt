@@ -18,7 +18,8 @@ use Rattle.flash_model.specs.Calls.{Call, Reply, codeOf, valuesOf, buffe
 use Rattle.flash_model.specs.Calls.{PageCall.read, PageCall.save, PageCall.slotRead, PageCall.slotSave, WholeCall.check, WholeCall.report, WholeCall.nextLive, WholeCall.erase, WholeCall.slotFind, WholeCall.slotList, CompoundCall.claim, Call.onPage, Call.onWhole, Call.onPages}
 use Rattle.flash_model.specs.Slots.{slotRefusal}
 use Rattle.flash_model.specs.PageStore.{expectedPage}
-use Rattle.flash_model.specs.Demands.{fillsBuffer, NextLiveIs, SavedAs, ErasedAs, LowestFreeBlank, AppendedAt, CompactedAs, ProperSave, LengthsTaken, SaveCodes, namedBy, onSlots, ReadOnly, SaveDone, Demand2}
+use Rattle.flash_model.specs.Meanings.{NextLiveIs}
+use Rattle.flash_model.specs.Demands.{fillsBuffer, SavedAs, ErasedAs, LowestFreeBlank, AppendedAt, CompactedAs, ProperSave, LengthsTaken, SaveCodes, namedBy, onSlots, ReadOnly, SaveDone, Demand2}
 use Rattle.flash_model.proofs.RowLaws.{first-zero, first-refused}
 use Rattle.flash_model.proofs.BitmapLaws.{free-bit}
 use Rattle.flash_model.proofs.BlockLaws.{new-length}

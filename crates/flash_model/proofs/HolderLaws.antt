@@ -17,7 +17,7 @@ use Rattle.flash_model.specs.Measures.{capacity, userBlocks, legalNumber
 use Rattle.flash_model.specs.UserBlock.{number, payload, rightChecksum, isCopy}
 use Rattle.flash_model.specs.Partition.{blockAt, allocated, copyAt, holds, holder, contents}
 use Rattle.flash_model.specs.Update.{isAt, isHolder, holders, otherHolders}
-use Rattle.flash_model.specs.Demands.{HoldsAt, HighestHolds, Rising, HoldersAt}
+use Rattle.flash_model.specs.Meanings.{HoldsAt, HighestHolds, Rising, HoldersAt}
 use Rattle.flash_model.proofs.MeasureLaws.{legal-le, le-legal}
 use Rattle.flash_model.proofs.SequenceLaws.{UpTo}
 

@@ -28,4 +28,5 @@ pub mod ClaimRuleLaws
 pub mod SlotRuleLaws
 pub mod ByteLaws
 pub mod WitnessLaws
+pub mod SlotPageLaws
 pub mod SlotWitnessLaws

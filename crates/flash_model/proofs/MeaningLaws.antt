@@ -20,7 +20,7 @@ use Rattle.flash_model.specs.Measures.{capacity, userBlocks}
 use Rattle.flash_model.specs.UserBlock.{rightChecksum}
 use Rattle.flash_model.specs.Update.{isHolder}
 use Rattle.flash_model.specs.Partition.{blockAt, headerNumber, allocated, refusal, Sound, contents, used, lowestLive}
-use Rattle.flash_model.specs.Demands.{NextLiveIs, Meanings}
+use Rattle.flash_model.specs.Meanings.{NextLiveIs, Meanings}
 use Rattle.flash_model.proofs.BlockLaws.{payload-length}
 use Rattle.flash_model.proofs.SoundLaws.{tests-of, tested-sound, unrefused-sound, sound-measured, used-most, allocated-used}
 use Rattle.flash_model.proofs.HolderLaws.{contents-are, holders-at}

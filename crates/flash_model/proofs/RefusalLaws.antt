@@ -13,7 +13,7 @@ use Rattle.words.proofs.WordLaws.{same-eq, eq-same}
 use Rattle.flash_model.specs.Measures.{legalSize, capacity}
 use Rattle.flash_model.specs.Bitmap.{allocatedIn, outOfSequence}
 use Rattle.flash_model.specs.Partition.{magic, headerNumber, version, bitmapOf, allocated, row, lengthRow, headerRows, sequenceRow, refusal}
-use Rattle.flash_model.specs.Demands.{Gap, RefusalsMean, SoundMeans}
+use Rattle.flash_model.specs.Meanings.{Gap, RefusalsMean, SoundMeans}
 use Rattle.flash_model.proofs.SequenceLaws.{sequence-up-to, passes-below, sequence-gap}
 use Rattle.flash_model.proofs.RowLaws.{Says, by-test, is-wrong, is-right, says-not, says-other}
 

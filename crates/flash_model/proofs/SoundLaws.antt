@@ -10,7 +10,8 @@ use borrow.Author.Tests.{eq-eqb}
 use Rattle.flash_model.specs.Measures.{capacity, userBlocks}
 use Rattle.flash_model.specs.Bitmap.{allocatedIn, outOfSequence}
 use Rattle.flash_model.specs.Partition.{headerNumber, version, bitmapOf, allocated, refusal, Sound, used}
-use Rattle.flash_model.specs.Demands.{SoundMeans, Keeps}
+use Rattle.flash_model.specs.Meanings.{SoundMeans}
+use Rattle.flash_model.specs.Demands.{Keeps}
 use Rattle.flash_model.proofs.MeasureLaws.{Measured, measures-of}
 use Rattle.flash_model.proofs.SequenceLaws.{UpTo, sequence-up-to, up-to-sequence, keep-length, passes-below}
 use Rattle.flash_model.proofs.RowLaws.{is-right}

@@ -22,7 +22,8 @@ use Rattle.flash_model.specs.Partition.{blockAt, magic, headerNumber, ve
 use Rattle.flash_model.specs.Update.{compacted}
 use Rattle.flash_model.specs.Calls.{Call, replyTo, after}
 use Rattle.flash_model.specs.Runs.{Step, Chain}
-use Rattle.flash_model.specs.Demands.{SoundMeans, LowestFreeBlank, Bytes, NotVacuous}
+use Rattle.flash_model.specs.Meanings.{SoundMeans}
+use Rattle.flash_model.specs.Demands.{LowestFreeBlank, Bytes, NotVacuous}
 use Rattle.flash_model.proofs.MeasureLaws.{Measured, measures-of, le-legal}
 use Rattle.flash_model.proofs.BitmapLaws.{ff-free}
 use Rattle.flash_model.proofs.SequenceLaws.{UpTo, passes-below}
