@@ -23,7 +23,7 @@ extern "C" {
 #endif
 
 /* Raised by 1 whenever a function, a struct or a number of this interface is added or changed. */
-#define GALTUYEG_VERSION 4
+#define GALTUYEG_VERSION 5
 
 /* The linked library's GALTUYEG_VERSION. Where it differs from this header's the two don't fit, and nothing else may be called. */
 uint32_t galtuyeg_version(void);
@@ -165,7 +165,7 @@ uint32_t galtuyeg_flash_read(const uint8_t *image, size_t image_len, uint8_t par
                              size_t page_len);
 
 /* Saves `page`, 60 bytes, as the contents of a number, if these are still what the writer last saw: `expected` is 60 bytes, or 0
- * for nothing there. 0 to 6, 8, 9. */
+ * for nothing there. A page that is there already changes no byte. 0 to 6, 8, 9. */
 uint32_t galtuyeg_flash_save(uint8_t *image, size_t image_len, uint8_t partition, uint64_t number, const uint8_t *expected,
                              size_t expected_len, const uint8_t *page, size_t page_len);
 
@@ -196,7 +196,8 @@ struct galtuyeg_slot galtuyeg_slot_find(const uint8_t *image, size_t image_len, 
 struct galtuyeg_slot galtuyeg_slot_list(const uint8_t *image, size_t image_len, uint8_t partition, uint64_t from);
 
 /* Gives the slot that galtuyeg_slot_find gives for the product number of this header, two blocks of 60 bytes, and changes
- * nothing. Where there is none it saves the two at the lowest slot that is not valid, and gives that. 0 to 5, 8, 41, 40. */
+ * nothing. Where there is none it saves the two at the lowest slot that is not valid, and gives that; one of the two that is
+ * there already is not written again. 0 to 5, 8, 41, 40. */
 struct galtuyeg_slot galtuyeg_slot_claim(uint8_t *image, size_t image_len, uint8_t partition, const uint8_t *first,
                                          size_t first_len, const uint8_t *second, size_t second_len);
 
@@ -205,7 +206,7 @@ uint32_t galtuyeg_slot_read(const uint8_t *image, size_t image_len, uint8_t part
                             uint8_t *page, size_t page_len);
 
 /* Saves `page`, 60 bytes, as the contents of data block 0 or 1 of a valid slot, if these are still what the writer last saw:
- * `expected` is 60 bytes, or 0 for nothing there. 0 to 5, 8, 42, 43, 9. */
+ * `expected` is 60 bytes, or 0 for nothing there. A page that is there already changes no byte. 0 to 5, 8, 42, 43, 9. */
 uint32_t galtuyeg_slot_save(uint8_t *image, size_t image_len, uint8_t partition, uint64_t slot, uint64_t block,
                             const uint8_t *expected, size_t expected_len, const uint8_t *page, size_t page_len);
 

@@ -6,7 +6,7 @@ import struct
 import sys
 from ctypes import c_size_t, c_uint8, c_uint32, c_uint64, c_void_p
 
-VERSION = 4  # GALTUYEG_VERSION of the header that these declarations follow
+VERSION = 5  # GALTUYEG_VERSION of the header that these declarations follow
 BUFFER = [c_void_p, c_size_t]
 PARTITION = [*BUFFER, c_uint8]
 CARD_FILE = [*BUFFER, *BUFFER]  # card, name

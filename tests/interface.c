@@ -151,6 +151,32 @@ static void flash_calls(uint8_t *image, uint8_t *before)
     CHECK(galtuyeg_flash_erase(NULL, 0, 3) == 1);
 }
 
+/* A page that is there already, handed in twice by one pointer, and the refusals of such a save; then pages that look like
+ * nothing where nothing is. */
+static void idle_saves(uint8_t *image, uint8_t *before)
+{
+    static const uint8_t zeros[GALTUYEG_PAGE_BYTES];
+    uint8_t page[GALTUYEG_PAGE_BYTES], other[GALTUYEG_PAGE_BYTES];
+
+    memset(page, 1, sizeof page);
+    memset(other, 0xFF, sizeof other);
+    format_partition(image);
+    CHECK(galtuyeg_flash_save(image, PARTITION_BYTES, 3, 24, NULL, 0, page, sizeof page) == 0);
+    memcpy(before, image, PARTITION_BYTES);
+    CHECK(galtuyeg_flash_save(image, PARTITION_BYTES, 3, 24, page, sizeof page, page, sizeof page) == 0);
+    CHECK(galtuyeg_flash_save(image, PARTITION_BYTES, 3, 24, other, sizeof other, page, sizeof page) == 9);
+    CHECK(galtuyeg_flash_save(image, PARTITION_BYTES, 3, 24, NULL, 0, page, sizeof page) == 9);
+    CHECK(galtuyeg_flash_save(image, PARTITION_BYTES, 3, 25, page, sizeof page, page, sizeof page) == 9);
+    CHECK(galtuyeg_flash_save(image, PARTITION_BYTES, 3, 24, page, 59, page, 59) == 8);
+    CHECK(galtuyeg_flash_save(image, PARTITION_BYTES, 3, 510, page, sizeof page, page, sizeof page) == 6);
+    CHECK(galtuyeg_flash_save(image, PARTITION_BYTES, 2, 24, page, sizeof page, page, sizeof page) == 3);
+    CHECK(memcmp(image, before, PARTITION_BYTES) == 0);
+
+    CHECK(galtuyeg_flash_save(image, PARTITION_BYTES, 3, 25, NULL, 0, zeros, sizeof zeros) == 0);
+    CHECK(galtuyeg_flash_save(image, PARTITION_BYTES, 3, 26, NULL, 0, other, sizeof other) == 0);
+    CHECK(galtuyeg_flash_report(image, PARTITION_BYTES, 3).live == 3);
+}
+
 /* The flash checksum, as the published routine works it. */
 static unsigned flash_checksum(const uint8_t *bytes, size_t length)
 {
@@ -222,6 +248,12 @@ static void slot_claims(uint8_t *image, uint8_t *before)
     CHECK(galtuyeg_flash_save(image, PARTITION_BYTES, 3, 421, page, sizeof page, header + 60, 60) == 0);
     header[0x70] ^= 1;
     CHECK(at_slot(claim(image, header), 99));
+
+    /* the first block is there already, so the claim that mends the second uses one block */
+    CHECK(galtuyeg_flash_save(image, PARTITION_BYTES, 3, 421, header + 60, 60, page, sizeof page) == 0);
+    CHECK(galtuyeg_flash_report(image, PARTITION_BYTES, 3).used == 204);
+    CHECK(at_slot(claim(image, header), 99));
+    CHECK(galtuyeg_flash_report(image, PARTITION_BYTES, 3).used == 205);
 }
 
 /* The data blocks of slot 1, which are numbers 30 and 31. */
@@ -249,6 +281,8 @@ static void slot_pages(uint8_t *image)
         CHECK(memcmp(page, new_page, sizeof page) == 0);
         CHECK(galtuyeg_flash_read(image, PARTITION_BYTES, 3, 30 + block, page, sizeof page) == 0);
         CHECK(memcmp(page, new_page, sizeof page) == 0);
+        CHECK(galtuyeg_slot_save(image, PARTITION_BYTES, 3, 1, block, page, 60, new_page, 60) == 0);
+        CHECK(galtuyeg_flash_report(image, PARTITION_BYTES, 3).used == 6 + 2 * block);
     }
 }
 
@@ -582,6 +616,7 @@ int main(void)
         return 2;
     version_and_texts();
     flash_calls(image, before);
+    idle_saves(image, before);
     slot_claims(image, before);
     slot_pages(image);
     slot_refusals(image, before);

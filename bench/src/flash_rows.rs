@@ -34,10 +34,10 @@ type SaveCall = fn(&mut [u8], u8, u64, &[u8], &[u8]) -> u32;
 
 /// What is called on which filling.
 const CALLS: [(Filling, &[Call]); 5] = [
-    (Filling::Sparse, &[check, report, next_live, read, append, compaction, erase]),
-    (Filling::HalfUsed, &[check, report, next_live, read, append, compaction, erase]),
-    (Filling::Full, &[check, report, next_live, read, compaction, erase]),
-    (Filling::Stale, &[report, next_live, read, read_missing, compaction, erase]),
+    (Filling::Sparse, &[check, report, next_live, read, idle, append, compaction, erase]),
+    (Filling::HalfUsed, &[check, report, next_live, read, idle, append, compaction, erase]),
+    (Filling::Full, &[check, report, next_live, read, idle, compaction, erase]),
+    (Filling::Stale, &[report, next_live, read, read_missing, idle, compaction, erase]),
     (Filling::Damaged, &[report, next_live, read, compaction, erase]),
 ];
 
@@ -144,6 +144,21 @@ fn saves(sample: &Sample) -> Vec<Save<'_>> {
     sample.spread(SPREAD).map(save).collect()
 }
 
+/// Each save brings what is there.
+fn idle_saves(sample: &Sample) -> Vec<Save<'_>> {
+    let save = |(number, expected)| {
+        let page = <[u8; PAGE]>::try_from(expected).expect("a page");
+        Save { number, expected, page }
+    };
+    sample.spread(SPREAD).map(save).collect()
+}
+
+fn idle(sample: &Sample) -> Row<'_> {
+    let idle = |save: SaveCall| move |image: &mut Vec<u8>, asked: &Save| asked.by(save, image);
+    let job = job("save, idle", sample, idle_saves(sample), sample.partition.bytes.clone());
+    job.row(idle(raw::flash_save), SAVES.map(idle))
+}
+
 /// Each save finds the image as it was: before it, the block and the bitmap that an append changes are
 /// put back. A copy of the whole image would take longer than the call.
 fn append(sample: &Sample) -> Row<'_> {
@@ -201,12 +216,23 @@ mod tests {
     }
 
     #[test]
+    fn idle_saves_change_nothing() {
+        for sample in samples().iter().flatten() {
+            let mut image = sample.partition.bytes.clone();
+            for save in idle_saves(sample) {
+                assert_eq!(save.by(raw::flash_save, &mut image), 0);
+            }
+            assert!(image == sample.partition.bytes);
+        }
+    }
+
+    #[test]
     fn rows_of_all_sizes_correspond() {
         let samples = samples();
         let rows = rows(&samples);
         for line in growing(&rows) {
             assert!(line.iter().all(|row| (row.call, &row.on) == (line[0].call, &line[0].on)));
         }
-        assert_eq!(growing(&rows).count(), 13);
+        assert_eq!(growing(&rows).count(), 15);
     }
 }

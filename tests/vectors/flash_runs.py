@@ -1,5 +1,5 @@
 """Prints the lines that a program must print, by its argument: with `runs` those of crates/test_flash_runs, and so on. They come
-from a model of a flash partition written from document 01 alone: an image is a bytearray, block checksums are Python's
+from a model of a flash partition written from documents 01 and 02 alone: an image is a bytearray, block checksums are Python's
 own CRC, and the sums of whole images are zlib's Adler-32."""
 import binascii
 import sys
@@ -126,6 +126,8 @@ def save(image, partition, number, expected, page):
         return 8
     if contents(image, number) != expected:
         return 9
+    if page == expected:
+        return 0
     free = bitmap_bits(image).find("1") + 1
     if free and block(image, free) == FREE:
         append(image, free, user_block(number, page))
@@ -325,6 +327,35 @@ def spoiled_block():
     print_report("after the append", image)
 
 
+def save_again(image, number, round):
+    return save(image, 3, number, page_of(number, round), page_of(number, round))
+
+
+def idle_saves():
+    image = formatted(32768, 3)
+    print(f"number 24 saved: {save_each(image, 3, [(24, 1), (24, 2)])}")
+    print_report("saved twice", image)
+    print(f"save the page that is there: {save_again(image, 24, 2)}")
+    print_report("after the idle save", image)
+    image[3 * 64 + 17] = 254
+    print_report("block 3 spoiled", image)
+    print(f"save the page that is there: {save_again(image, 24, 2)}")
+    print_report("after the idle save", image)
+    print(f"save the page before it: {save(image, 3, 24, page_of(24, 2), page_of(24, 1))}")
+    print_report("after the compaction", image)
+    for byte in (0, 255):
+        print(f"save {byte} throughout where nothing is: {save(image, 3, byte, b'', bytes([byte]) * 60)}")
+    print_report("after the appends", image)
+
+
+def idle_in_full():
+    image = formatted(32768, 3)
+    print(f"numbers saved: {save_each(image, 3, [(number, 1) for number in range(510)])}")
+    print_report("all live", image)
+    print(f"save the page that is there: {save_again(image, 24, 1)}")
+    print_report("after the idle save", image)
+
+
 def print_stage(stage, image, partition, end, round):
     walked = len(holders(image))
     first, rest = whole(image, range(AGAIN), round), whole(image, range(AGAIN, end), 1)
@@ -364,6 +395,8 @@ def saves():
     all_live()
     stale_copies()
     spoiled_block()
+    idle_saves()
+    idle_in_full()
 
 
 def runs():

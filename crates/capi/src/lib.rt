@@ -26,7 +26,7 @@ ghost use Rattle.card_updates.specs.Write.{givenFile, writeVerdict, written};
 ghost use Rattle.capi.specs.Interface.{interfaceVersion};
 ghost use Rattle.capi.specs.Structs.{reportOf, nextLiveOf, slotOf, cardCheckOf, cardEntryOf, cardVerdictOf};
 
-const INTERFACE_VERSION: u32 = 4;
+const INTERFACE_VERSION: u32 = 5;
 
 #[no_mangle]
 pub extern "C" fn galtuyeg_version() -> u32

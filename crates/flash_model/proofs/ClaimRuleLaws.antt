@@ -116,6 +116,7 @@ module _ (image : List ℕ) (partition : ℕ) (one other image′ : List ℕ) (a
           between = i;
           first-save = first-one;
           second-save = second-one;
+          writes = λ e. free-found image slot f .not-valid (free-most image slot f, (one ++ other, subst (λ (j : List ℕ). HeaderIs j slot (one ++ other)) e header));
           has-header = header;
           is-found = record {
             here = record { is-slot = free-most image slot f; header = one ++ other; is-valid = header; product-is = refl };

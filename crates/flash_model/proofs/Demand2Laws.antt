@@ -1,32 +1,35 @@
 -- Demand 2, from the laws of saves and of answered calls. Assumes nothing.
-use Prim.Native.Nat.{ℕ, _≤_}
+use Prim.Native.Nat.{ℕ, suc, _≤_}
 use mathlib.Core.Path.{_≡_, refl, sym, ap, subst, _∙_}
 use mathlib.Core.Bool.{true, false, not, true≢false, false≢true}
 use mathlib.Core.List.{List, [], _∷_, _++_}
 use mathlib.Core.Option.{Option, none, some}
 use mathlib.Core.Logic.{_↔_, _≢_, _⊎_, inl, inr}
 use native.Mathlib.Omega.{arith}
+use native.Mathlib.Nat.{add-zero}
 use native.Mathlib.Decide.{ℕ-discrete}
-use lib.ListN.{length}
+use lib.ListN.{length, getD, length-append}
+use lib.Seq.{getD-append-add}
 use borrow.Author.Tests.{eq-eqb, ne-eqb}
 use Rattle.words.specs.Lists.{isSome, toList}
 use Rattle.flash_model.specs.Measures.{capacity, topNumber}
 use Rattle.flash_model.specs.UserBlock.{newBlock}
-use Rattle.flash_model.specs.Partition.{headerNumber, version, bitmapOf, allocated, row, first, refusal, Sound, contents, live, used, lowestLive}
-use Rattle.flash_model.specs.Update.{appendBlock, appended, holders, otherHolders, compacted, savedAt, saved, erased}
+use Rattle.flash_model.specs.Partition.{blockAt, headerNumber, version, bitmapOf, allocated, row, first, refusal, Sound, contents, live, used, lowestLive}
+use Rattle.flash_model.specs.Update.{appendBlock, appended, holders, otherHolders, compacted, savedAt, pageWritten, saved, erased}
 use Rattle.flash_model.specs.Calls.{Call, Reply, codeOf, valuesOf, buffersOf, filledBuffers, changedImage, Answered}
 use Rattle.flash_model.specs.Calls.{PageCall.read, PageCall.save, PageCall.slotRead, PageCall.slotSave, WholeCall.check, WholeCall.report, WholeCall.nextLive, WholeCall.erase, WholeCall.slotFind, WholeCall.slotList, CompoundCall.claim, Call.onPage, Call.onWhole, Call.onPages}
 use Rattle.flash_model.specs.Slots.{slotRefusal}
 use Rattle.flash_model.specs.PageStore.{expectedPage}
 use Rattle.flash_model.specs.Meanings.{NextLiveIs}
-use Rattle.flash_model.specs.Demands.{fillsBuffer, SavedAs, ErasedAs, LowestFreeBlank, AppendedAt, CompactedAs, ProperSave, LengthsTaken, SaveCodes, namedBy, onSlots, ReadOnly, SaveDone, Demand2}
+use Rattle.flash_model.specs.Demands.{fillsBuffer, SavedAs, ErasedAs, LowestFreeBlank, SaveCases, AppendedAt, CompactedAs, ProperSave, LengthsTaken, SaveCodes, namedBy, onSlots, ReadOnly, SaveDone, Demand2}
 use Rattle.flash_model.proofs.RowLaws.{first-zero, first-refused}
 use Rattle.flash_model.proofs.BitmapLaws.{free-bit}
 use Rattle.flash_model.proofs.BlockLaws.{new-length}
 use Rattle.flash_model.proofs.SoundLaws.{unrefused-sound, sound-measured}
 use Rattle.flash_model.proofs.AppendLaws.{bit-falls, bit-other, appended-block, bytes-below, bytes-above, appended-length}
 use Rattle.flash_model.proofs.CompactLaws.{compacted-as}
-use Rattle.flash_model.proofs.SaveLaws.{append-blank, blank-append, holders-writable, others-writable, erased-keeps, erased-contents, saved-keeps, saved-contents}
+use Rattle.flash_model.proofs.SaveLaws.{either-saved, saved-idle, saved-written, append-blank, blank-append, blank-used, Writable, holders-writable, others-writable, erased-keeps, erased-contents, saved-keeps, saved-contents}
+use Rattle.flash_model.proofs.UsedLaws.{appended-used, compacted-used, compaction-used, erased-used}
 use Rattle.flash_model.proofs.CallLaws.{answered-code, accepted-image, accepted-values, accepted-buffers, refused-image, refused-values, refused-buffers}
 use Rattle.flash_model.proofs.MeaningLaws.{contents-length, next-live, none-live}
 use Rattle.flash_model.proofs.CodeLaws.{read-codes, save-codes, read-rows, save-rows}
@@ -181,38 +184,83 @@ module _ (image : List ℕ) (n : ℕ) (page image′ : List ℕ) (done : SaveDon
         keeps-rest = k;
       })
 
-  save-appends : (k : ℕ) → LowestFreeBlank image k → AppendedAt image k (newBlock n page) image′
-  save-appends k b =
+  save-idles : contents image n ≡ some page → (image′ ≡ image) × (contents image′ n ≡ some page)
+  save-idles e = (is-saved ∙ saved-idle image n page e, save-keeps .saved-page)
+
+  as-written : contents image n ≢ some page → image′ ≡ pageWritten image n page
+  as-written d = is-saved ∙ saved-written image n page d
+
+  save-appends : contents image n ≢ some page → (k : ℕ) → LowestFreeBlank image k → AppendedAt image k (newBlock n page) image′ × (used image′ ≡ suc (used image))
+  save-appends d k b =
       let new = newBlock n page in
       let l = new-length n page long in
       let m = sound-measured image is-sound in
-      rw (is-saved, way) (record {
-        is-written = appended-block image new k m (b .low) (b .high) l;
-        bit-was-1 = free-bit (bitmapOf image) k (unfold allocated in b .is-free);
-        bit-falls = bit-falls image new k m (b .low) (b .high) l (b .is-free);
-        other-bits = bit-other image new k m (b .low) (b .high) l;
-        bytes-below = bytes-below image new k m (b .low) (b .high) l;
-        bytes-above = bytes-above image new k m (b .low) (b .high) l;
-        same-length = appended-length image new k m (b .low) (b .high) l;
-      })
+      rw (as-written d, way) (
+        record {
+          is-written = appended-block image new k m (b .low) (b .high) l;
+          bit-was-1 = free-bit (bitmapOf image) k (unfold allocated in b .is-free);
+          bit-falls = bit-falls image new k m (b .low) (b .high) l (b .is-free);
+          other-bits = bit-other image new k m (b .low) (b .high) l;
+          bytes-below = bytes-below image new k m (b .low) (b .high) l;
+          bytes-above = bytes-above image new k m (b .low) (b .high) l;
+          same-length = appended-length image new k m (b .low) (b .high) l;
+        },
+        one-more,
+      )
     where
-      way : saved image n page ≡ appended image k (newBlock n page)
-      way = unfold saved in ap (savedAt image n page) (blank-append image k b)
+      way : pageWritten image n page ≡ appended image k (newBlock n page)
+      way = unfold pageWritten in ap (savedAt image n page) (blank-append image k b)
 
-  save-compacts : ((k : ℕ) → LowestFreeBlank image k → ⊥) → CompactedAs image (otherHolders image n ++ newBlock n page ∷ []) image′
-  save-compacts none-blank = rw (is-saved, way (appendBlock image) refl) (go)
+      one-more : used (appended image k (newBlock n page)) ≡ suc (used image)
+      one-more =
+          let u = blank-used image is-sound k b in
+          rw u (appended-used image is-sound (newBlock n page) (new-length n page long) (omega (arith, u, b .high)))
+
+  -- where there is no block to append to
+  module _ (d : contents image n ≢ some page) (full : appendBlock image ≡ none) where
+    as-compacted : image′ ≡ compacted image (otherHolders image n ++ newBlock n page ∷ [])
+    unfolding pageWritten
+    as-compacted = as-written d ∙ ap (savedAt image n page) full
+
+    writable : Writable image is-sound (otherHolders image n ++ newBlock n page ∷ [])
+    writable = others-writable image is-sound n page legal long
+
+    compacts : CompactedAs image (otherHolders image n ++ newBlock n page ∷ []) image′
+    compacts = rw as-compacted (compacted-as image (otherHolders image n ++ newBlock n page ∷ []) (sound-measured image is-sound) (writable .room) (writable .whole))
+
+    -- the new block is the last one kept
+    compacted-place : blockAt image′ (used image′) ≡ newBlock n page
+    compacted-place =
+        let others = otherHolders image n in
+        let l = length-append others (newBlock n page ∷ []) in
+        let u : used image′ ≡ suc (length others) = ap used as-compacted ∙ compacted-used image is-sound (others ++ newBlock n page ∷ []) writable ∙ l ∙ omega arith in
+        ap (blockAt image′) u ∙ compacts .blocks-are (length others) (omega (arith, l))
+        ∙ ap (λ (i : ℕ). getD (others ++ newBlock n page ∷ []) i []) (sym (add-zero (length others))) ∙ getD-append-add others (newBlock n page ∷ []) 0 []
+
+  save-compacts : contents image n ≢ some page → ((k : ℕ) → LowestFreeBlank image k → ⊥)
+      → CompactedAs image (otherHolders image n ++ newBlock n page ∷ []) image′ × (used image′ ≡ live image′)
+  save-compacts d none-blank = go (appendBlock image) refl
     where
-      kept : List (List ℕ)
-      kept = otherHolders image n ++ newBlock n page ∷ []
+      go : (o : Option ℕ) → appendBlock image ≡ o → CompactedAs image (otherHolders image n ++ newBlock n page ∷ []) image′ × (used image′ ≡ live image′)
+      go none e = (compacts d e, rw (as-compacted d e) (compaction-used image is-sound n page legal long))
+      go (some k) e = absurd (none-blank k (append-blank image k e))
 
-      way : (o : Option ℕ) → appendBlock image ≡ o → saved image n page ≡ compacted image (otherHolders image n ++ newBlock n page ∷ [])
-      way none e = unfold saved in ap (savedAt image n page) e
-      way (some k) e = absurd (none-blank k (append-blank image k e))
+  save-place : contents image n ≢ some page → blockAt image′ (used image′) ≡ newBlock n page
+  save-place d = go (appendBlock image) refl
+    where
+      go : (o : Option ℕ) → appendBlock image ≡ o → blockAt image′ (used image′) ≡ newBlock n page
+      go none e = compacted-place d e
+      go (some k) e =
+          let b = append-blank image k e in
+          let a = save-appends d k b in
+          ap (blockAt image′) (a .1 ∙ sym (blank-used image is-sound k b)) ∙ a .0 .is-written
 
-      go : CompactedAs image (otherHolders image n ++ newBlock n page ∷ []) (compacted image (otherHolders image n ++ newBlock n page ∷ []))
-      go =
-          let w = others-writable image is-sound n page legal long in
-          compacted-as image (otherHolders image n ++ newBlock n page ∷ []) (sound-measured image is-sound) (w .room) (w .whole)
+save-cases : (image : List ℕ) (n : ℕ) (page : List ℕ) → SaveCases image n page
+save-cases image n page = either-saved image n page (λ r. SaveCases image n page) (λ e. inl e) (λ d. inr (d, go (appendBlock image) refl))
+  where
+    go : (o : Option ℕ) → appendBlock image ≡ o → ((k : ℕ) × LowestFreeBlank image k) ⊎ ((k : ℕ) → LowestFreeBlank image k → ⊥)
+    go none e = inr (λ k b. let q = sym e ∙ blank-append image k b in let z : _≡_ {A = ℕ} 0 1 = cc in omega (arith, z))
+    go (some k) e = inl (k, append-blank image k e)
 
 -- ---- refused as changed
 
@@ -237,7 +285,7 @@ module _ (image : List ℕ) (partition n : ℕ) (expected page : List ℕ) (p : 
 
 erase-keeps : (image : List ℕ) (partition : ℕ) (image′ : List ℕ) (answer : Reply)
     → Answered image (onWhole (erase partition)) image′ answer → answer .code ≡ 0
-    → ErasedAs image image′ × CompactedAs image (holders image) image′
+    → ErasedAs image image′ × CompactedAs image (holders image) image′ × (used image′ ≡ live image′)
 erase-keeps image partition image′ answer a e =
     let c = onWhole (erase partition) in
     let s : Sound image = unrefused-sound image partition (unfold codeOf in sym (answered-code image c image′ answer a) ∙ e) in
@@ -249,6 +297,7 @@ erase-keeps image partition image′ answer a e =
         keeps-rest = k;
       },
       unfold erased in compacted-as image (holders image) (sound-measured image s) (w .room) (w .whole),
+      erased-used image s,
     )
 
 pub demand2 : Demand2
@@ -272,8 +321,11 @@ demand2 = record {
   next-live-none = next-live-none;
   read-gives = read-gives;
   save-keeps = save-keeps;
-  save-appends = λ image n page image′ k done b. save-appends image n page image′ done k b;
+  save-idles = save-idles;
+  save-appends = λ image n page image′ k done d b. save-appends image n page image′ done d k b;
   save-compacts = save-compacts;
+  save-place = save-place;
+  save-cases = save-cases;
   refused-as-changed = refused-as-changed;
   accepted-unchanged = accepted-unchanged;
   erase-keeps = erase-keeps;

@@ -12,6 +12,7 @@ pub mod AppendLaws
 pub mod CompactLaws
 pub mod RoomLaws
 pub mod SaveLaws
+pub mod UsedLaws
 pub mod SlotLaws
 pub mod PremiseLaws
 pub mod CallLaws

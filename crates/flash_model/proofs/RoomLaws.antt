@@ -1,9 +1,9 @@
 -- The holders have different legal numbers: they are as many as the live numbers, and without one of these there is room
--- for a new block. Assumes nothing.
+-- for a new block. Blocks with different numbers count the live ones of any image. Assumes nothing.
 use Prim.Native.Nat.{ℕ, zero, suc, _≤_, _<_}
 use mathlib.Core.Path.{_≡_, refl, sym, ap, _∙_}
 use mathlib.Core.Bool.{Bool, true, false, not, cond}
-use mathlib.Core.List.{List, [], _∷_, map}
+use mathlib.Core.List.{List, [], _∷_, _++_, map, map-append}
 use mathlib.Core.Option.{Option, none, some, Option·map, Option·some-injective}
 use native.Mathlib.Omega.{arith}
 use lib.Dec.{eqb}
@@ -12,7 +12,8 @@ use borrow.Author.Tests.{ne-eqb}
 use Rattle.words.specs.Lists.{keep, has, Distinct, isSome, numbersFrom}
 use Rattle.words.proofs.ListLaws.{All, all-mono, all-map, keep-passes, keep-map, any-map}
 use Rattle.words.proofs.SearchLaws.{lastWith, last-any}
-use Rattle.words.proofs.Distinct.{except, room-for, count-has}
+use Rattle.words.proofs.Distinct.{except, keep-distinct, except-has, room-for, count-has}
+use Rattle.words.proofs.JoinLaws.{distinct-append}
 use Rattle.flash_model.specs.Measures.{capacity, topNumber, userBlocks, logicalNumbers}
 use Rattle.flash_model.specs.UserBlock.{number, payload}
 use Rattle.flash_model.specs.Partition.{blockAt, holder, contents, live}
@@ -21,7 +22,27 @@ use Rattle.flash_model.proofs.MeasureLaws.{Measured, legal-le}
 use Rattle.flash_model.proofs.SequenceLaws.{keep-length}
 use Rattle.flash_model.proofs.HolderLaws.{HolderAt, is-holder-at, hasNumber, holders-last}
 
+-- one of these blocks has the number
+pub some-numbered : (n : ℕ) (kept : List (List ℕ)) → isSome (Option·map payload (lastWith (hasNumber n) kept)) ≡ has n (map number kept)
+some-numbered n kept = some-map (lastWith (hasNumber n) kept) ∙ last-any (hasNumber n) kept ∙ sym (any-map number (λ x. eqb x n) kept)
+  where
+    some-map : (o : Option (List ℕ)) → isSome (Option·map payload o) ≡ isSome o
+    some-map none = refl
+    some-map (some b) = refl
+
 module _ (image : List ℕ) where
+  -- as many numbers are live as there are blocks with different ones, where exactly their numbers have contents
+  pub live-count : (kept : List (List ℕ)) → ((n : ℕ) → isSome (contents image n) ≡ has n (map number kept)) → Distinct (map number kept)
+      → All (λ x. x < capacity (length image)) (map number kept) → live image ≡ length kept
+  unfolding live logicalNumbers
+  live-count kept h d below =
+      ap length (keep-same (numbersFrom 0 (capacity (length image))))
+      ∙ count-has (capacity (length image)) (map number kept) d below ∙ length-map kept number
+    where
+      keep-same : (l : List ℕ) → keep (λ n. isSome (contents image n)) l ≡ keep (λ n. has n (map number kept)) l
+      keep-same [] = refl
+      keep-same (x ∷ l) = rw (h x, keep-same l)
+
   -- the numbers of the holders among the n blocks from k on
   numbersOf : ℕ → ℕ → List ℕ
   numbersOf k n = map number (map (blockAt image) (keep (isHolder image) (numbersFrom k n)))
@@ -54,9 +75,17 @@ module _ (image : List ℕ) where
       go ih true e = (not-again k e (suc k) n (omega arith), ih)
       go ih false e = ih
 
-  distinct-numbers : Distinct (map number (holders image))
+  pub distinct-numbers : Distinct (map number (holders image))
   unfolding holders userBlocks numbersOf
   distinct-numbers = all-distinct 1 (capacity (length image))
+
+  -- and so have the other holders with a new block of that number
+  pub distinct-with : (n : ℕ) (new : List ℕ) → number new ≡ n → Distinct (map number (otherHolders image n ++ new ∷ []))
+  unfolding otherHolders
+  distinct-with n new e =
+      rw (map-append number (otherHolders image n) (new ∷ []), keep-map number (λ x. not (eqb x n)) (holders image), e)
+      (distinct-append (except n (map number (holders image))) (n ∷ []) (keep-distinct (λ x. not (eqb x n)) (map number (holders image)) distinct-numbers)
+      (refl, tt) (rw (except-has n (map number (holders image)))))
 
   -- what holds of every holder's block
   pub all-holders : (P : List ℕ → Type 0) → ((k : ℕ) → HolderAt image k → P (blockAt image k)) → All P (holders image)
@@ -87,21 +116,5 @@ module _ (image : List ℕ) where
         omega (arith, e, room-for (capacity (length image)) n (map number (holders image)) (omega (arith, h, m .top-number)) distinct-numbers numbers-below)
 
     pub live-holders : live image ≡ length (holders image)
-    unfolding live logicalNumbers
     live-holders =
-        ap length (keep-same (numbersFrom 0 (capacity (length image))))
-        ∙ count-has (capacity (length image)) (map number (holders image)) distinct-numbers numbers-below
-        ∙ length-map (holders image) number
-      where
-        some-map : (o : Option (List ℕ)) → isSome (Option·map payload o) ≡ isSome o
-        some-map none = refl
-        some-map (some b) = refl
-
-        live-has : (n : ℕ) → isSome (contents image n) ≡ has n (map number (holders image))
-        live-has n =
-            ap isSome (sym (holders-last image n)) ∙ some-map (lastWith (hasNumber n) (holders image))
-            ∙ last-any (hasNumber n) (holders image) ∙ sym (any-map number (λ x. eqb x n) (holders image))
-
-        keep-same : (l : List ℕ) → keep (λ n. isSome (contents image n)) l ≡ keep (λ n. has n (map number (holders image))) l
-        keep-same [] = refl
-        keep-same (x ∷ l) = rw (live-has x, keep-same l)
+        live-count (holders image) (λ n. ap isSome (sym (holders-last image n)) ∙ some-numbered n (holders image)) distinct-numbers numbers-below

@@ -13,9 +13,10 @@ use borrow.Author.Tests.{eq-eqb, ne-eqb}
 use Rattle.flash_model.specs.Partition.{contents}
 use Rattle.flash_model.specs.Calls.{codeOf, replyTo, after}
 use Rattle.flash_model.specs.Calls.{CompoundCall.claim, Call.onPages}
-use Rattle.flash_model.specs.Demands.{Witness}
+use Rattle.flash_model.specs.Demands.{SavedAs, Witness}
 use Rattle.flash_model.specs.SlotDemands.{HeaderIs, IsSlot, ProductAt, ClaimFound, ClaimWritten}
-use Rattle.flash_model.specs.SlotWitnesses.{HeaderFor, BlankPartition, OneSlot, AllSlots, SlotsNotVacuous}
+use Rattle.flash_model.specs.SlotWitnesses.{HeaderFor, BlankPartition, SecondThere, OneSlot, AllSlots, SlotsNotVacuous}
+use Rattle.flash_model.proofs.Demand2Laws.{demand2}
 use Rattle.flash_model.proofs.SlotRuleLaws.{slot-rules}
 use Rattle.flash_model.proofs.ByteLaws.{bytes-replicate}
 use Rattle.flash_model.proofs.WitnessLaws.{not-vacuous}
@@ -58,6 +59,26 @@ module _ (product one other : ℕ → List ℕ) (new newOne newOther : List ℕ)
 
 -- ---- none
 
+-- where no slot is valid, a claim writes slot 0
+module _ {product one other : List ℕ} (h : HeaderFor product one other) (image : List ℕ) (w : Witness 32768 3 image) (none-valid : (k : ℕ) → IsSlot image k → ⊥) where
+  first-claimed : codeOf image (onPages (claim 3 one other)) ≡ 0
+  first-claimed =
+      slot-rules .claim-codes image 3 one other (is-open image w) .row-0 .1
+      ((h .one-length, h .other-length), (h .makes-valid, λ t. none-valid 0 (t .0 0 (omega arith))))
+
+  first-written : ClaimWritten image one other (after image (onPages (claim 3 one other))) 0
+  first-written =
+      let gives = claim-given image one other first-claimed in
+      ⊎-elim (λ f. absurd (none-has (gives .0) (f .is-lowest .here))) (λ f. at-0 (gives .0) f) (gives .2)
+    where
+      none-has : (k : ℕ) → ProductAt image k (take 10 (drop 2 (one ++ other))) → ⊥
+      none-has k p = none-valid k (p .is-slot, (p .header, p .is-valid))
+
+      at-0 : (k : ℕ) → ClaimWritten image one other (after image (onPages (claim 3 one other))) k
+          → ClaimWritten image one other (after image (onPages (claim 3 one other))) 0
+      at-0 zero f = f
+      at-0 (suc k) f = absurd (none-valid 0 (f .is-lowest .all-below 0 (omega arith)))
+
 module _ (product one other : List ℕ) (h : HeaderFor product one other) where
   zero-slots : (image : List ℕ) × BlankPartition image one other
   zero-slots =
@@ -69,36 +90,40 @@ module _ (product one other : List ℕ) (h : HeaderFor product one other) where
         is-partition = w;
         none-live = empty;
         none-valid = none-valid;
-        is-claimed = claimed;
-        is-written = ⊎-elim (λ f. absurd (none-has (gives .0) (f .is-lowest .here))) (λ f. subst (λ (k : ℕ). ClaimWritten image one other image′ k) (lowest-0 f) f) (gives .2);
+        is-claimed = first-claimed h image w none-valid;
+        is-written = first-written h image w none-valid;
       }
         where
-          image′ : List ℕ
-          image′ = after image (onPages (claim 3 one other))
+          first-missing : {page : List ℕ} → _≡_ {A = Option (List ℕ)} none (some page) → _≡_ {A = ℕ} 0 1
+          first-missing e = cc
 
           none-valid : (k : ℕ) → IsSlot image k → ⊥
-          none-valid k v = let z : _≡_ {A = ℕ} 0 1 = first-missing (sym (empty (24 + 4 * k)) ∙ v .1 .1 .first-block) in absurd (omega (arith, z))
-            where
-              first-missing : {page : List ℕ} → _≡_ {A = Option (List ℕ)} none (some page) → _≡_ {A = ℕ} 0 1
-              first-missing e = cc
+          none-valid k v = let z = first-missing (sym (empty (24 + 4 * k)) ∙ v .1 .1 .first-block) in absurd (omega (arith, z))
 
-          none-has : (k : ℕ) → ProductAt image k (take 10 (drop 2 (one ++ other))) → ⊥
-          none-has k p = none-valid k (p .is-slot, (p .header, p .is-valid))
+  -- the first blocks are zeros, the second ones the header's
+  half-idle : (image : List ℕ) × SecondThere image one other
+  half-idle =
+      let w = paged (λ slot. zeros) (λ slot. other) (λ slot l. zeros-60) (λ slot l. record { are-bytes = h .other-bytes; sixty = h .other-length }) in
+      (w .0, of (w .0) (w .1))
+    where
+      of : (image : List ℕ) → SlotPages (λ slot. zeros) (λ slot. other) image → SecondThere image one other
+      of image p = record {
+        is-partition = p .is-partition;
+        is-written = written;
+        first-writes = λ e. none-valid 0
+            (omega arith, (one ++ other, header-there image 0 product one other h (ap (λ (i : List ℕ). contents i 24) (sym e) ∙ first-is .saved-page) (p .second-page 0 (omega arith))));
+        second-idles = demand2 .save-idles (written .between) 25 other (after image (onPages (claim 3 one other))) (written .second-save)
+            (first-is .other-pages 25 (λ e. omega (arith, e)) ∙ p .second-page 0 (omega arith)) .0;
+      }
+        where
+          none-valid : (k : ℕ) → IsSlot image k → ⊥
+          none-valid k v = zeros-first image k (p .first-page k (v .0)) v
 
-          claimed : codeOf image (onPages (claim 3 one other)) ≡ 0
-          claimed =
-              slot-rules .claim-codes image 3 one other (is-open image w) .row-0 .1
-              ((h .one-length, h .other-length), (h .makes-valid, λ t. none-valid 0 (t .0 0 (omega arith))))
+          written : ClaimWritten image one other (after image (onPages (claim 3 one other))) 0
+          written = first-written h image (p .is-partition) none-valid
 
-          gives : (k : ℕ) × (replyTo image (onPages (claim 3 one other)) .values ≡ k ∷ []) × (ClaimFound image one other image′ k ⊎ ClaimWritten image one other image′ k)
-          gives = claim-given image one other claimed
-
-          lowest-0 : {k : ℕ} → ClaimWritten image one other image′ k → k ≡ 0
-          lowest-0 {k} f = go k f
-            where
-              go : (k : ℕ) → ClaimWritten image one other image′ k → k ≡ 0
-              go zero f = refl
-              go (suc k) f = absurd (none-valid 0 (f .is-lowest .all-below 0 (omega arith)))
+          first-is : SavedAs image 24 one (written .between)
+          first-is = demand2 .save-keeps image 24 one (written .between) (written .first-save)
 
 -- ---- one
 
@@ -218,6 +243,7 @@ slots-not-vacuous = record {
   headers = λ product ten b. (take 60 (headerOf product), drop 60 (headerOf product), header-for product ten b);
   different = different;
   zero-slots = zero-slots;
+  half-idle = half-idle;
   one-slot = one-slot;
   all-slots = all-slots;
 }

@@ -1,4 +1,4 @@
--- The theorems are about something: a sound partition of each legal length, empty and full, and chains of any calls.
+-- The theorems are about something: a sound partition of each legal length, empty and full, idle saves, and chains of any calls.
 -- Assumes nothing.
 use Prim.Native.Nat.{ℕ, zero, suc, _+_, _*_, _-_, _≤_, _<_}
 use mathlib.Core.Path.{_≡_, refl, sym, ap, subst, _∙_}
@@ -21,9 +21,11 @@ use Rattle.flash_model.specs.UserBlock.{number, payload, rightChecksum, 
 use Rattle.flash_model.specs.Partition.{blockAt, magic, headerNumber, version, bitmapOf, allocated, refusal, Sound, contents, used}
 use Rattle.flash_model.specs.Update.{compacted}
 use Rattle.flash_model.specs.Calls.{Call, replyTo, after}
+use Rattle.flash_model.specs.Calls.{PageCall.save, Call.onPage}
+use Rattle.flash_model.specs.PageStore.{expectedPage}
 use Rattle.flash_model.specs.Runs.{Step, Chain}
 use Rattle.flash_model.specs.Meanings.{SoundMeans}
-use Rattle.flash_model.specs.Demands.{LowestFreeBlank, Bytes, NotVacuous}
+use Rattle.flash_model.specs.Demands.{LowestFreeBlank, SaveDone, Bytes, NotVacuous}
 use Rattle.flash_model.proofs.MeasureLaws.{Measured, measures-of, le-legal}
 use Rattle.flash_model.proofs.BitmapLaws.{ff-free}
 use Rattle.flash_model.proofs.SequenceLaws.{UpTo, passes-below}
@@ -33,6 +35,8 @@ use Rattle.flash_model.proofs.SoundLaws.{unrefused-sound, used-most, al
 use Rattle.flash_model.proofs.HolderLaws.{hasNumber, contents-log}
 use Rattle.flash_model.proofs.CompactLaws.{compacted-up-to}
 use Rattle.flash_model.proofs.SaveLaws.{Writable, compacted-keeps, compacted-contents}
+use Rattle.flash_model.proofs.MeaningLaws.{meanings}
+use Rattle.flash_model.proofs.Demand2Laws.{demand2}
 use Rattle.flash_model.proofs.ByteLaws.{small, bytes-small, bytes-append, bytes-replicate, new-bytes, compacted-bytes}
 
 three-sizes : (size : ℕ) → (legalSize size ≡ true) ↔ ((size ≡ 16384) ⊎ ((size ≡ 32768) ⊎ (size ≡ 65536)))
@@ -243,6 +247,19 @@ unfolding made-steps
 made-chain image [] = tt
 made-chain image (c ∷ calls) = (record { answer-is = refl; image-is = refl }, made-chain (after image c) calls)
 
+idle : (image : List ℕ) (partition n : ℕ) (page : List ℕ) → refusal image partition ≡ 0 → contents image n ≡ some page → SaveDone image n page image
+unfolding replyTo
+idle image partition n page r e =
+    let c = onPage (save partition n page page) in
+    let long = meanings .page-length image n page (unrefused-sound image partition r) e in
+    let done = demand2 .save-codes image partition n page page r .row-0 .1 (meanings .contents-are image n page .0 e .in-range, (long, inr long), is-page page long ∙ sym e) in
+    let saves : SaveDone image n page (after image c) = (partition, page, replyTo image c, record { answer-is = refl; image-is = refl }, done) in
+    subst (λ (i : List ℕ). SaveDone image n page i) (demand2 .save-idles image n page (after image c) saves e .0) saves
+  where
+    is-page : (p : List ℕ) → length p ≡ 60 → expectedPage p ≡ some p
+    is-page [] l = absurd (omega (arith, l))
+    is-page (x ∷ xs) l = refl
+
 pub not-vacuous : NotVacuous
 not-vacuous = record {
   three-sizes = three-sizes;
@@ -263,5 +280,6 @@ not-vacuous = record {
     full-used size partition page legal l,
     full-contents size partition page legal l,
   );
+  idle = idle;
   chains = λ image calls. (made-steps image calls, made-calls image calls, made-chain image calls);
 }

@@ -178,7 +178,7 @@ filledBuffers image (onPage (slotSave partition slot block expected page)) = exp
 filledBuffers image (onWhole w) = buffersOf (onWhole w)
 filledBuffers image (onPages c) = buffersOf (onPages c)
 
--- A save changes the image.
+-- Only a save may change the image; what it leaves says `saved`.
 abbrev pub pageImage : List ℕ → PageCall → List ℕ
 pageImage image (read partition n buffer) = image
 pageImage image (save partition n expected page) = saved image n page
@@ -204,7 +204,7 @@ savesAt image partition one other (some slot) =
 unfoldable pub callsMade : List ℕ → CompoundCall → List PageCall
 callsMade image (claim partition one other) = savesAt image partition one other (writtenSlot image (one ++ other))
 
--- A save, an erase and a claim change the image.
+-- Only a save, an erase and a claim may change the image.
 abbrev pub changedImage : List ℕ → Call → List ℕ
 changedImage image (onPage p) = pageImage image p
 changedImage image (onWhole (check partition)) = image

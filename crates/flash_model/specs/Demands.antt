@@ -81,6 +81,13 @@ pub record LowestFreeBlank (image : List ℕ) (k : ℕ) : Type 0 where
   pub lower-allocated : (j : ℕ) → 1 ≤ j → j < k → allocated image j ≡ true
   pub is-blank : blockAt image k ≡ replicate 64 255
 
+-- The cases of a save: the page is there already; it is not, and there is a block to append to; it is not, and there is none. No
+-- two of them hold at once.
+abbrev pub SaveCases : List ℕ → ℕ → List ℕ → Type 0
+SaveCases image n page =
+    (contents image n ≡ some page)
+    ⊎ ((contents image n ≢ some page) × (((k : ℕ) × LowestFreeBlank image k) ⊎ ((k : ℕ) → LowestFreeBlank image k → ⊥)))
+
 -- Document 01's short way, at block k: "No other byte changes and no bit goes from 0 to 1."
 pub record AppendedAt (image : List ℕ) (k : ℕ) (new image′ : List ℕ) : Type 0 where
   pub is-written : blockAt image′ k ≡ new
@@ -227,12 +234,23 @@ pub record Demand2 : Type 0 where
       → Answered image (onPage (read partition n buffer)) image′ answer → answer .code ≡ 0
       → (page : List ℕ) × (answer .buffers ≡ page ∷ []) × (contents image n ≡ some page) × (length page ≡ 60)
   pub save-keeps : (image : List ℕ) (n : ℕ) (page image′ : List ℕ) → SaveDone image n page image′ → SavedAs image n page image′
-  -- it is an append exactly where that can be had, and a compaction otherwise
+  -- "A save whose new bytes equal the contents now answers 0 and changes no byte" (document 02, order 5): an idle save
+  pub save-idles : (image : List ℕ) (n : ℕ) (page image′ : List ℕ)
+      → SaveDone image n page image′ → contents image n ≡ some page → (image′ ≡ image) × (contents image′ n ≡ some page)
+  -- any other is an append exactly where that can be had, and a compaction otherwise. "A save's answer doesn't tell which way was
+  -- taken ..; the report does": used is as it was after an idle save, one more after an append, and equals live after a compaction.
+  -- (Where used equalled live before, the counts after a compaction can be those after one of the others.)
   pub save-appends : (image : List ℕ) (n : ℕ) (page image′ : List ℕ) (k : ℕ)
-      → SaveDone image n page image′ → LowestFreeBlank image k → AppendedAt image k (newBlock n page) image′
+      → SaveDone image n page image′ → contents image n ≢ some page → LowestFreeBlank image k
+      → AppendedAt image k (newBlock n page) image′ × (used image′ ≡ suc (used image))
   pub save-compacts : (image : List ℕ) (n : ℕ) (page image′ : List ℕ)
-      → SaveDone image n page image′ → ((k : ℕ) → LowestFreeBlank image k → ⊥)
-      → CompactedAs image (otherHolders image n ++ newBlock n page ∷ []) image′
+      → SaveDone image n page image′ → contents image n ≢ some page → ((k : ℕ) → LowestFreeBlank image k → ⊥)
+      → CompactedAs image (otherHolders image n ++ newBlock n page ∷ []) image′ × (used image′ ≡ live image′)
+  -- "or where the block went; the report does": it is the last used one
+  pub save-place : (image : List ℕ) (n : ℕ) (page image′ : List ℕ)
+      → SaveDone image n page image′ → contents image n ≢ some page → blockAt image′ (used image′) ≡ newBlock n page
+  -- there is no fourth case
+  pub save-cases : (image : List ℕ) (n : ℕ) (page : List ℕ) → SaveCases image n page
   -- "In an otherwise proper save, it is refused as changed exactly when that is no longer so", and else accepted
   pub refused-as-changed : (image : List ℕ) (partition n : ℕ) (expected page : List ℕ) → ProperSave image partition n expected page
       → (codeOf image (onPage (save partition n expected page)) ≡ 9) ↔ (expectedPage expected ≢ contents image n)
@@ -240,7 +258,7 @@ pub record Demand2 : Type 0 where
       → (codeOf image (onPage (save partition n expected page)) ≡ 0) ↔ (expectedPage expected ≡ contents image n)
   pub erase-keeps : (image : List ℕ) (partition : ℕ) (image′ : List ℕ) (answer : Reply)
       → Answered image (onWhole (erase partition)) image′ answer → answer .code ≡ 0
-      → ErasedAs image image′ × CompactedAs image (holders image) image′
+      → ErasedAs image image′ × CompactedAs image (holders image) image′ × (used image′ ≡ live image′)
 
 -- ---- demand 3
 
@@ -300,12 +318,16 @@ pub record Witness (size partition : ℕ) (image : List ℕ) : Type 0 where
 
 pub record NotVacuous : Type 0 where
   pub three-sizes : (size : ℕ) → (legalSize size ≡ true) ↔ ((size ≡ 16384) ⊎ ((size ≡ 32768) ⊎ (size ≡ 65536)))
-  -- with nothing live, where a save appends, and with every number live, with a page of its own, where it compacts
+  -- with nothing live, where a save appends, and with every number live, with a page of its own, where a save of that page is
+  -- idle and one of another page compacts
   pub empty : (size partition : ℕ) → legalSize size ≡ true → partition < 256
       → (image : List ℕ) × Witness size partition image × (used image ≡ 0) × ((n : ℕ) → contents image n ≡ none) × LowestFreeBlank image 1
   pub full : (size partition : ℕ) (page : ℕ → List ℕ) → legalSize size ≡ true → partition < 256
       → ((n : ℕ) → Bytes (page n)) → ((n : ℕ) → length (page n) ≡ 60)
       → (image : List ℕ) × Witness size partition image × (used image ≡ capacity size)
       × ((n : ℕ) → n ≤ topNumber size → contents image n ≡ some (page n))
+  -- wherever a page is, there is an idle save
+  pub idle : (image : List ℕ) (partition n : ℕ) (page : List ℕ) → refusal image partition ≡ 0 → contents image n ≡ some page
+      → SaveDone image n page image
   -- any list of calls can be made, so every chain theorem has its chains
   pub chains : (image : List ℕ) (calls : List Call) → (steps : List Step) × (map (λ s. s .made) steps ≡ calls) × Chain image steps

@@ -120,6 +120,8 @@ pub record ClaimWritten (image one other image′ : List ℕ) (slot : ℕ) : Typ
   pub between : List ℕ
   pub first-save : SaveDone image (24 + 4 * slot) one between
   pub second-save : SaveDone between (25 + 4 * slot) other image′
+  -- one of the two may be idle, not both
+  pub writes : image′ ≢ image
   -- the slot then is valid with that header, is what find gives, and no other number's page has changed
   pub has-header : HeaderIs image′ slot (one ++ other)
   pub is-found : LowestProduct image′ slot (take 10 (drop 2 (one ++ other)))

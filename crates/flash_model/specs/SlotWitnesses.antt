@@ -1,5 +1,5 @@
 -- The rules of slots are about something: partitions with no valid slot, with one and with all hundred, with any product numbers,
--- on which a claim writes, is refused 40, or finds its own.
+-- on which a claim writes two blocks or one, is refused 40, or finds its own.
 -- Assumes nothing.
 use Prim.Native.Nat.{ℕ, _≤_}
 use mathlib.Core.Path.{_≡_}
@@ -30,7 +30,7 @@ pub record BlankPartition (image one other : List ℕ) : Type 0 where
   pub is-claimed : codeOf image (onPages (claim 3 one other)) ≡ 0
   pub is-written : ClaimWritten image one other (after image (onPages (claim 3 one other))) 0
 
--- One slot of the hundred is valid. Its product is found; a claim of another product writes a slot, and must compact.
+-- One slot of the hundred is valid. Its product is found; a claim of another product writes a slot, for which it must compact.
 pub record OneSlot (image : List ℕ) (slot : ℕ) (product one other newOne newOther : List ℕ) : Type 0 where
   pub is-partition : Witness 32768 3 image
   pub is-valid : HeaderIs image slot (one ++ other)
@@ -40,6 +40,13 @@ pub record OneSlot (image : List ℕ) (slot : ℕ) (product one other newOne new
   pub must-compact : (k : ℕ) → LowestFreeBlank image k → ⊥
   pub written : ℕ
   pub is-written : ClaimWritten image newOne newOther (after image (onPages (claim 3 newOne newOther))) written
+
+-- No slot is valid, and the second header block stands at slot 0 already. A claim there writes the first; its second save is idle.
+pub record SecondThere (image one other : List ℕ) : Type 0 where
+  pub is-partition : Witness 32768 3 image
+  pub is-written : ClaimWritten image one other (after image (onPages (claim 3 one other))) 0
+  pub first-writes : is-written .between ≢ image
+  pub second-idles : after image (onPages (claim 3 one other)) ≡ is-written .between
 
 -- All hundred are valid, each with a header of its own. Each product is found and may be claimed again; a claim of another is
 -- refused 40.
@@ -53,6 +60,7 @@ pub record AllSlots (image : List ℕ) (product one other : ℕ → List ℕ) (n
 pub record SlotsNotVacuous : Type 0 where
   pub headers : (product : List ℕ) → length product ≡ 10 → Bytes product → (one : List ℕ) × (other : List ℕ) × HeaderFor product one other
   pub zero-slots : (product one other : List ℕ) → HeaderFor product one other → (image : List ℕ) × BlankPartition image one other
+  pub half-idle : (product one other : List ℕ) → HeaderFor product one other → (image : List ℕ) × SecondThere image one other
   pub one-slot : (slot : ℕ) (product one other new newOne newOther : List ℕ) → slot ≤ 99 → HeaderFor product one other
       → HeaderFor new newOne newOther → product ≢ new
       → (image : List ℕ) × OneSlot image slot product one other newOne newOther

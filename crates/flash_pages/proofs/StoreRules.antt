@@ -1,4 +1,4 @@
--- Saving: the tests before it, and which way an accepted save takes. Assumes nothing.
+-- Saving: the tests before it, whether an accepted save is idle, and which way another one takes. Assumes nothing.
 use Prim.Native.Nat.{ℕ, suc, _≤_, _<_}
 use mathlib.Core.Path.{_≡_, refl, sym, ap, _∙_}
 use mathlib.Core.Bool.{Bool, true, false, not, cond, _||_, true≢false}
@@ -12,13 +12,14 @@ use Rattle.words.specs.Lists.{isSome}
 use Rattle.words.specs.Words.{sameBytes}
 use Rattle.words.proofs.SearchLaws.{lowest-is, lowest-nothing}
 use Rattle.words.proofs.Bools.{or-false-left}
-use Rattle.words.proofs.WordLaws.{same-lengths}
+use Rattle.words.proofs.WordLaws.{same-lengths, same-eq}
 use Rattle.flash_model.specs.Measures.{capacity, legalNumber}
 use Rattle.flash_model.specs.Bitmap.{allocatedIn, lowestFreeIn}
 use Rattle.flash_model.specs.UserBlock.{payload, newBlock}
 use Rattle.flash_model.specs.Partition.{blockAt, bitmapOf, row, allocated, lowestFree, holder, contents, used}
-use Rattle.flash_model.specs.Update.{appendBlock, appended, otherHolders, compacted, savedAt, saved}
-use Rattle.flash_model.specs.Calls.{changedSince, wrongLengths, saveRows}
+use Rattle.flash_model.specs.Update.{appendBlock, appended, otherHolders, compacted, savedAt, pageWritten, isContents, saved}
+use Rattle.flash_model.specs.Calls.{differs, changedSince, wrongLengths, saveRows}
+use Rattle.flash_model.proofs.RowLaws.{row-zero}
 use Rattle.flash_model.proofs.SoundLaws.{allocated-used}
 use Rattle.flash_model.proofs.SaveLaws.{append-blank, blank-used}
 use Rattle.flash_model.proofs.MeaningLaws.{contents-length}
@@ -125,19 +126,25 @@ module _ {image : List ℕ} {log : OpenedLog} (u : Usable image log) where
           let d : k ≡ suc (log .used) = blank-used image (u .is-sound) k b ∙ ap suc (sym (u .used-is)) in
           (omega (arith, d, b .high, ap capacity (u .has-size)), q ∙ ap (λ (i : ℕ). some i) d)
 
-  pub saved-append : true ≡ canAppend (appendBlock image) → (n k : ℕ) (page : List ℕ) → k ≡ suc (log .used) → appended image k (newBlock n page) ≡ saved image n page
-  unfolding saved
-  saved-append e n k page f = rw (f, appends e .1)
+  pub written-append : true ≡ canAppend (appendBlock image) → (n k : ℕ) (page : List ℕ) → k ≡ suc (log .used) → appended image k (newBlock n page) ≡ pageWritten image n page
+  unfolding pageWritten
+  written-append e n k page f = rw (f, appends e .1)
 
-  pub saved-compact : false ≡ canAppend (appendBlock image) → (n : ℕ) (page : List ℕ) → compacted image (otherHolders image n ++ newBlock n page ∷ []) ≡ saved image n page
-  unfolding saved
-  saved-compact e n page = go (appendBlock image) refl e
+  pub written-compact : false ≡ canAppend (appendBlock image) → (n : ℕ) (page : List ℕ) → compacted image (otherHolders image n ++ newBlock n page ∷ []) ≡ pageWritten image n page
+  unfolding pageWritten
+  written-compact e n page = go (appendBlock image) refl e
     where
       go : (o : Option ℕ) → appendBlock image ≡ o → false ≡ canAppend o → compacted image (otherHolders image n ++ newBlock n page ∷ []) ≡ savedAt image n page (appendBlock image)
       go none q f = rw q
       go (some k) q f = absurd (true≢false (sym f))
 
 -- ---- the rows of a save
+
+-- where what is there is what is expected, it is the page exactly where that is expected
+expected-contents : (o : Option (List ℕ)) (expected page : List ℕ) → length page ≡ 60 → differs o expected ≡ false → isContents o page ≡ sameBytes expected page
+expected-contents none expected page l d =
+    sym (same-lengths expected page (λ e. omega (arith, e, l, eqb-true (length expected) 0 (not-false (eqb (length expected) 0) d))))
+expected-contents (some kept) expected page l d = ap (λ (p : List ℕ). sameBytes p page) (same-eq kept expected (not-false (sameBytes kept expected) d))
 
 module _ {image : List ℕ} {log : OpenedLog} (u : Usable image log) (n : ℕ) (expected page : List ℕ) where
   -- what a save answers, and the image that it leaves
@@ -146,6 +153,11 @@ module _ {image : List ℕ} {log : OpenedLog} (u : Usable image log) (n : ℕ) (
 
   refused-as : (c : ℕ) → (c ≡ 0 → ⊥) → c ≡ saveRows image n expected page → SaveAs c image
   refused-as c h e = (e, rw (sym e, ne-eqb c 0 h))
+
+  -- the page's length, where row 8 doesn't apply
+  pub page-60 : wrongLengths expected page ≡ false → length page ≡ 60
+  unfolding wrongLengths
+  page-60 e = eqb-true (length page) 60 (not-false (eqb (length page) 60) (or-false-left (not (eqb (length page) 60)) (not (eqb (length expected) 0 || eqb (length expected) 60)) e))
 
   here : (b : Bool) → legalNumber (log .m .size) n ≡ b → legalNumber (length image) n ≡ b
   here b e = ap (λ (s : ℕ). legalNumber s n) (u .has-size) ∙ e
@@ -164,11 +176,12 @@ module _ {image : List ℕ} {log : OpenedLog} (u : Usable image log) (n : ℕ) (
       unfolding saveRows
       save-9 c e h = refused-as c h (rw (here true legal, right) e)
 
-      pub save-0 : 0 ≡ row 9 (changedSince image n expected) 0 → (image′ : List ℕ) → image′ ≡ saved image n page → SaveAs 0 image′
-      unfolding saveRows
-      save-0 e image′ s = (rw (here true legal, right) e, rw (here true legal, right, sym e) s)
-
-  -- the page's length, where row 8 doesn't apply
-  pub page-60 : wrongLengths expected page ≡ false → length page ≡ 60
-  unfolding wrongLengths
-  page-60 e = eqb-true (length page) 60 (not-false (eqb (length page) 60) (or-false-left (not (eqb (length page) 60)) (not (eqb (length expected) 0 || eqb (length expected) 60)) e))
+      -- idle, or the page written
+      pub save-0 : 0 ≡ row 9 (changedSince image n expected) 0 → (idle : Bool) → idle ≡ sameBytes expected page → (image′ : List ℕ)
+          → image′ ≡ cond idle image (pageWritten image n page) → SaveAs 0 image′
+      unfolding saveRows changedSince saved
+      save-0 e idle i image′ s =
+          let d = row-zero 8 0 (changedSince image n expected) (sym e) .0 in (
+            rw (here true legal, right) e,
+            rw (here true legal, right, sym e, expected-contents (contents image n) expected page (page-60 right) d, sym i) s,
+          )

@@ -12,7 +12,7 @@ ghost use lib.Dec.{eqb};
 ghost use lib.ListN.{length};
 ghost use Rattle.flash_model.specs.Measures.{legalNumber, topNumber};
 ghost use Rattle.flash_model.specs.Partition.{row};
-ghost use Rattle.flash_model.specs.Update.{appendBlock, saved};
+ghost use Rattle.flash_model.specs.Update.{appendBlock, pageWritten, saved};
 ghost use Rattle.flash_model.specs.Calls.{changedSince, wrongLengths, readRows, saveRows};
 ghost use Rattle.flash_partition.specs.Usable.{Usable};
 ghost use Rattle.flash_pages.specs.Rows.{readBuffer, canAppend};
@@ -85,11 +85,11 @@ fn can_append(image: &[u8], log: OpenedLog) -> bool
     same(block, &[255u8; 64])
 }
 
-// The accepted save: an append where it can be had, else a compaction.
-fn store(image: &mut [u8], log: OpenedLog, number: usize, page: &[u8])
+// Writes a page that isn't the contents yet: an append where it can be had, else a compaction.
+fn write_page(image: &mut [u8], log: OpenedLog, number: usize, page: &[u8])
     requires { ⌜ Usable (now image) log ⌝ }
     requires { ⌜ (number ≤ topNumber (log .m .size)) × (length (now page) ≡ 60) ⌝ }
-    ensures { λ _. ⌜ now (image .exit) ≡ saved (now (image .entry)) number (now (page .entry)) ⌝ }
+    ensures { λ _. ⌜ now (image .exit) ≡ pageWritten (now (image .entry)) number (now (page .entry)) ⌝ }
 {
     if can_append(&image[..], log) {
         flash_journal::append(image, log.m, log.used + 1, number, page);
@@ -98,7 +98,7 @@ fn store(image: &mut [u8], log: OpenedLog, number: usize, page: &[u8])
     flash_compaction::compact(image, log, number, page);
 }
 
-// Saves a page as the contents of a number: refusals 6, 8 and 9, or 0.
+// Saves a page as the contents of a number: refusals 6, 8 and 9, or 0. A page that is there already changes nothing.
 pub fn save_page(
     image: &mut [u8],
     log: OpenedLog,
@@ -120,6 +120,10 @@ pub fn save_page(
     if code != 0 {
         return code;
     }
-    store(image, log, number, page);
+    // Where a save isn't refused, what was found is what is expected.
+    if same(expected, page) {
+        return 0;
+    }
+    write_page(image, log, number, page);
     0
 }

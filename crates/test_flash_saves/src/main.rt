@@ -1,5 +1,5 @@
-// Runs the calls on flash partitions and prints what they answer: two writers, and both ways of a save, by append and by
-// compaction. tests/vectors/flash_runs.py prints the same lines from a model of its own; they are the file stdout beside src/.
+// Runs the calls on flash partitions and prints what they answer: two writers, both ways of a save, by append and by
+// compaction, and idle saves. tests/vectors/flash_runs.py prints the same lines from a model of its own; they are the file stdout beside src/.
 mod saves;
 
 fn main() {
@@ -9,4 +9,6 @@ fn main() {
     saves::stale_copies_saved(&mut image);
     saves::stale_copies_erased(&mut image);
     saves::spoiled_block(&mut image);
+    saves::idle_saves(&mut image);
+    saves::idle_in_full(&mut image);
 }

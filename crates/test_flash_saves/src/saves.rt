@@ -1,8 +1,9 @@
-// Accepted saves: two writers, and both ways, by append and by compaction.
+// Accepted saves: two writers, and both ways, by append and by compaction; and idle ones.
 use test_printing::print_answer;
 use test_printing::print_read;
 use test_printing::print_save;
 use test_scenarios::pages::format;
+use test_scenarios::pages::page_of;
 use test_scenarios::pages::save_numbers;
 use test_scenarios::pages::save_round;
 use test_scenarios::pages::save_rounds;
@@ -93,4 +94,47 @@ fn after_spoiled(image: &mut [u8; 32768]) {
     test_printing::print_pages(b"number 7", image, 7, 8, 1);
     print_save(b"save number 8", image, 3, 8, 1);
     test_printing::print_report(b"after the append", image, 3);
+}
+
+// A line: what a save of number 24 answers whose page is that of the round and is there already.
+fn print_idle_save(image: &mut [u8], round: usize) {
+    let page = page_of(24, round);
+    print_save_seen(b"save the page that is there", image, &page, round);
+    test_printing::print_report(b"after the idle save", image, 3);
+}
+
+// With a block to append to, and with that spoiled, where another page must compact.
+pub(crate) fn idle_saves(image: &mut [u8; 32768]) {
+    format(image, 3, 1);
+    test_printing::print_count(b"number 24 saved", save_rounds(image, 3, 24, 2));
+    test_printing::print_report(b"saved twice", image, 3);
+    print_idle_save(image, 2);
+    image[209] = 254;
+    test_printing::print_report(b"block 3 spoiled", image, 3);
+    print_idle_save(image, 2);
+    not_idle(image);
+}
+
+// The page of an old copy is written, and so is one byte throughout where nothing is.
+fn not_idle(image: &mut [u8; 32768]) {
+    let page = page_of(24, 2);
+    print_save_seen(b"save the page before it", image, &page, 1);
+    test_printing::print_report(b"after the compaction", image, 3);
+    print_answer(
+        b"save 0 throughout where nothing is",
+        flash::save(image, 3, 0, &page[0..0], &[0u8; 60]),
+    );
+    print_answer(
+        b"save 255 throughout where nothing is",
+        flash::save(image, 3, 255, &page[0..0], &[255u8; 60]),
+    );
+    test_printing::print_report(b"after the appends", image, 3);
+}
+
+// With no block free.
+pub(crate) fn idle_in_full(image: &mut [u8; 32768]) {
+    format(image, 3, 1);
+    test_printing::print_count(b"numbers saved", save_numbers(image, 3, 510, 1));
+    test_printing::print_report(b"all live", image, 3);
+    print_idle_save(image, 1);
 }

@@ -52,7 +52,7 @@ pigeonhole zero (x ∷ l) d a = absurd (not-suc-le-zero (a .0))
 pigeonhole (suc k) l d a =
     omega (arith, drops-one k l d, pigeonhole k (except k l) (keep-distinct (λ x. not (eqb x k)) l d) (except-below k l a))
 
-except-has : (k : ℕ) (l : List ℕ) → has k (except k l) ≡ false
+pub except-has : (k : ℕ) (l : List ℕ) → has k (except k l) ≡ false
 except-has k [] = refl
 except-has k (x ∷ l) = go (except-has k l) (eqb x k) refl
   where

@@ -3,12 +3,30 @@
 use inputs::flash::PAGE;
 use inputs::Prng;
 
-/// Any 60 bytes, now and then all alike.
+/// Any 60 bytes, now and then all alike, and often such as could be taken for nothing.
 pub fn page(prng: &mut Prng) -> [u8; PAGE] {
     match prng.below(8) {
-        0 => [0xff; PAGE],
+        0 => [prng.pick(&[0, 0xff]); PAGE],
         1 => [prng.byte(); PAGE],
         _ => prng.array(),
+    }
+}
+
+/// The pages that a writer saves: in half of the runs a few, over and over, so that many are there already.
+#[derive(Clone)]
+pub struct Pages(Vec<[u8; PAGE]>);
+
+impl Pages {
+    pub fn any(prng: &mut Prng) -> Pages {
+        let count = prng.pick(&[0, 0, 0, 1, 2, 3]);
+        Pages((0..count).map(|_| page(prng)).collect())
+    }
+
+    pub fn draw(&self, prng: &mut Prng) -> [u8; PAGE] {
+        match self.0.as_slice() {
+            [] => page(prng),
+            few => prng.pick(few),
+        }
     }
 }
 

@@ -143,6 +143,9 @@ pub fn save(round: &mut Round, image: &mut Lent, asked: &Save) -> u32 {
     let text = format!("partition {partition} number {number} expected and page of {lengths:?}");
     let mut case = round.compare(Call::FlashSave, text);
     case.answered(proved.into());
+    if proved == 0 && asked.page == asked.expected {
+        case.idle();
+    }
     case.same("number", proved, others);
     if case.wants_typed() {
         if let Some(typed) = typed_save(image.before(), asked) {

@@ -153,16 +153,28 @@ fn save_over_contents(round: &mut Round, image: &mut Lent, own: u8, top: u64) {
     let asked = number(&mut round.prng, top);
     let (answer, contents) = compare::read(round, image, own, asked, &[0; 60]);
     let there = if answer == 0 { contents } else { Vec::new() };
-    let expected = nearly(&mut round.prng, there);
-    let new = any_page(&mut round.prng);
-    let same = round.prng.one_in(10) && !expected.is_empty();
+    let expected = nearly(&mut round.prng, there.clone());
+    let page = new_page(&mut round.prng, &there, &expected);
     let asked = Save {
         partition: partition_number(&mut round.prng, own),
         number: asked,
         expected: &expected,
-        page: if same { &expected } else { &new },
+        page: &page,
     };
     compare::save(round, image, &asked);
+}
+
+/// A page to be saved: now and then what is there, what is expected, or one of these but for a bit.
+pub fn new_page(prng: &mut Prng, there: &[u8], expected: &[u8]) -> Vec<u8> {
+    let mut known = if prng.one_in(2) { there.to_vec() } else { expected.to_vec() };
+    match prng.below(8) {
+        0 | 1 => known,
+        2 if !known.is_empty() => {
+            prng.flip_bit(&mut known);
+            known
+        }
+        _ => any_page(prng),
+    }
 }
 
 /// Mostly the bytes themselves; else a bit off, none, some, or of another length.

@@ -35,7 +35,7 @@ use tally::Tally;
 const LEAST: u64 = 1_000;
 
 /// What the rounds do in turn.
-const TURNS: [fn(&mut Round); 29] = [
+const TURNS: [fn(&mut Round); 30] = [
     flash_rounds::lengths,
     flash_rounds::built,
     flash_rounds::built,
@@ -49,6 +49,7 @@ const TURNS: [fn(&mut Round); 29] = [
     slot_rounds::refused,
     slot_rounds::built,
     slot_rounds::taken,
+    slot_rounds::mended,
     slot_rounds::filled,
     slot_rounds::writers,
     card_rounds::lengths,

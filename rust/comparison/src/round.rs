@@ -58,6 +58,11 @@ impl Case<'_, '_> {
         }
     }
 
+    /// Counts the call as one that was done with an idle save.
+    pub fn idle(&mut self) {
+        self.round.tally.count_idle(self.call);
+    }
+
     /// Compares the proved library's answer with the others', in the order of [`OTHERS`].
     pub fn same<T, const N: usize>(&mut self, what: &str, proved: T, others: [T; N])
     where

@@ -4,6 +4,7 @@ use ::independent::slots as independent;
 use galtuyeg::slots::{self, DataBlock, SlotHeader};
 use galtuyeg::{flash, raw};
 use inputs::answers::{no_slot, Answer, SlotAnswer};
+use inputs::slots::{number, PARTITION};
 
 use crate::lent;
 use crate::round::Round;
@@ -59,6 +60,10 @@ pub fn claim(round: &mut Round, image: &mut Lent, partition: u8, asked: [&[u8]; 
     let text = format!("partition {partition} header {asked:02x?}");
     let mut case = round.compare(Call::SlotClaim, text);
     case.answered(proved.code);
+    let writes = proved.code == 0 && image.proved.get() != image.before();
+    if writes && block_is_there(image.before(), proved.slot, asked) {
+        case.idle();
+    }
     case.same("slot", proved, [SlotAnswer(other).raw()]);
     if case.wants_typed() {
         if let Some((slot, left)) = typed_claim(image.before(), partition, asked) {
@@ -69,6 +74,21 @@ pub fn claim(round: &mut Round, image: &mut Lent, partition: u8, asked: [&[u8]; 
     case.buffer("first", &mut first, false);
     case.buffer("second", &mut second, false);
     (proved.code == 0).then_some(proved.slot)
+}
+
+/// Whether one of the header's blocks is what the slot has in its place. (If both were, the slot would be valid.)
+fn block_is_there(image: &[u8], slot: u64, asked: [&[u8]; 2]) -> bool {
+    (0..).zip(asked).any(|(block, page)| header_block(image, slot, block).as_slice() == page)
+}
+
+/// The contents of a slot's header block 0 or 1, no bytes for nothing.
+pub fn header_block(image: &[u8], slot: u64, block: u16) -> Vec<u8> {
+    let mut page = vec![0; flash::PAGE_BYTES];
+    let number = number(slot as u16, block);
+    match ::independent::flash::read(image, PARTITION, number.into(), &mut page) {
+        0 => page,
+        _ => Vec::new(),
+    }
 }
 
 /// The data block that a read or a save names.
@@ -151,6 +171,9 @@ pub fn save(round: &mut Round, image: &mut Lent, asked: Data, [expected, page]: 
     let text = format!("{} expected and page of {lengths:?}", asked.text());
     let mut case = round.compare(Call::SlotSave, text);
     case.answered(proved.into());
+    if proved == 0 && page == expected {
+        case.idle();
+    }
     case.same("number", proved, [other]);
     if case.wants_typed() {
         if let Some((number, left)) = typed_save(image.before(), asked, expected, page) {

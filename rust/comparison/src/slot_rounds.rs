@@ -1,12 +1,13 @@
 //! Rounds on the game slots of partition 3.
 
+use ::independent::flash;
 use ::independent::slots as independent;
-use inputs::slots::{blocks, Product, PARTITION};
+use inputs::slots::{blocks, number, Product, PARTITION, SLOTS};
 use inputs::Prng;
 
 use crate::flash_arguments::any_page;
 use crate::flash_damage::Damage;
-use crate::flash_rounds::{nearly, odd_image};
+use crate::flash_rounds::{nearly, new_page, odd_image};
 use crate::round::Round;
 use crate::slot_arguments::{
     any_data_block, any_header, any_product, any_slot, header, nearly_block, nearly_product,
@@ -66,6 +67,25 @@ pub fn taken(round: &mut Round) {
     let mut image = round.lend(&partition.bytes);
     for _ in 0..6 {
         ask_claim(round, &mut image);
+    }
+    ask_everything(round, &mut image);
+}
+
+/// All slots valid. One of them loses a block of its header and is claimed again, which finds the other there.
+pub fn mended(round: &mut Round) {
+    let partition = builder::taken(&mut round.prng, 0);
+    let mut image = round.lend(&partition.bytes);
+    for _ in 0..6 {
+        let slot = round.prng.below(SLOTS.into()) as u64;
+        let header = [0, 1].map(|block| compare::header_block(image.before(), slot, block));
+        let lost = round.prng.below(2);
+        let mut other = header[lost].clone();
+        round.prng.flip_bit(&mut other);
+        let number = number(slot as u16, lost as u16).into();
+        image.change(|bytes| {
+            flash::save(bytes, PARTITION, number, &header[lost], &other);
+        });
+        compare::claim(round, &mut image, PARTITION, [&header[0], &header[1]]);
     }
     ask_everything(round, &mut image);
 }
@@ -141,9 +161,9 @@ pub fn save_over_contents(round: &mut Round, image: &mut Lent) {
     let own = Data { partition: PARTITION, ..asked };
     let (answer, contents) = compare::read(round, image, own, &[0; 60]);
     let there = if answer == 0 { contents } else { Vec::new() };
-    let expected = nearly(&mut round.prng, there);
-    let new = any_page(&mut round.prng);
-    compare::save(round, image, asked, [&expected, &new]);
+    let expected = nearly(&mut round.prng, there.clone());
+    let page = new_page(&mut round.prng, &there, &expected);
+    compare::save(round, image, asked, [&expected, &page]);
 }
 
 /// All valid slots by listings from 0 up.

@@ -6,36 +6,40 @@ use std::collections::BTreeMap;
 use inputs::flash::PAGE;
 use inputs::slots::{blocks, Product, PARTITION};
 
-use crate::flash_arguments::page;
+use crate::flash_arguments::Pages;
 use crate::flash_damage::Damage;
 use crate::round::Round;
 use crate::slot_arguments::{any_product, header};
 use crate::slot_compare::{self as compare, Data, Lent};
 use crate::slot_rounds::{ask_claim, ask_everything, ask_list};
 
-/// What a bench last saw of each slot's data blocks, no bytes for nothing.
-type Memory = BTreeMap<(u64, u64), Vec<u8>>;
+struct Bench {
+    /// What it last saw of each slot's data blocks, no bytes for nothing.
+    seen: BTreeMap<(u64, u64), Vec<u8>>,
+    pages: Pages,
+}
 
 pub fn run(round: &mut Round, image: &mut Lent, damage: &Damage) {
     let count = round.prng.within(1..=12);
     let games: Vec<Product> = (0..count).map(|_| any_product(&mut round.prng)).collect();
-    let mut benches = [Memory::new(), Memory::new()];
+    let pages = Pages::any(&mut round.prng);
+    let mut benches = [0, 1].map(|_| Bench { seen: BTreeMap::new(), pages: pages.clone() });
     let steps = round.prng.within(20..=120);
     for _ in 0..steps {
-        let memory = &mut benches[round.prng.below(2)];
+        let bench = &mut benches[round.prng.below(2)];
         let game = round.prng.pick(&games);
         match round.prng.below(24) {
             0 => image.change(|bytes| damage.blocks(&mut round.prng, bytes)),
             1 => ask_everything(round, image),
             2 => ask_claim(round, image),
             3 => ask_list(round, image),
-            _ => play(round, image, &game, memory),
+            _ => play(round, image, &game, bench),
         }
     }
 }
 
 /// A game looks for its slot, or claims it, then reads or saves there.
-fn play(round: &mut Round, image: &mut Lent, game: &Product, memory: &mut Memory) {
+fn play(round: &mut Round, image: &mut Lent, game: &Product, bench: &mut Bench) {
     let found = match round.prng.one_in(3) {
         true => compare::find(round, image, PARTITION, game),
         false => {
@@ -48,25 +52,25 @@ fn play(round: &mut Round, image: &mut Lent, game: &Product, memory: &mut Memory
     let block = round.prng.below(2) as u64;
     let asked = Data { partition: PARTITION, slot, block };
     match round.prng.one_in(3) {
-        true => look(round, image, asked, memory),
-        false => save(round, image, asked, memory),
+        true => look(round, image, asked, bench),
+        false => save(round, image, asked, bench),
     }
 }
 
-fn look(round: &mut Round, image: &mut Lent, asked: Data, memory: &mut Memory) {
+fn look(round: &mut Round, image: &mut Lent, asked: Data, bench: &mut Bench) {
     let (answer, page) = compare::read(round, image, asked, &[0; PAGE]);
     let seen = if answer == 0 { page } else { Vec::new() };
-    memory.insert((asked.slot, asked.block), seen);
+    bench.seen.insert((asked.slot, asked.block), seen);
 }
 
 /// After a refusal the bench looks again, at times.
-fn save(round: &mut Round, image: &mut Lent, asked: Data, memory: &mut Memory) {
-    let expected = memory.get(&(asked.slot, asked.block)).cloned().unwrap_or_default();
-    let page = page(&mut round.prng);
+fn save(round: &mut Round, image: &mut Lent, asked: Data, bench: &mut Bench) {
+    let expected = bench.seen.get(&(asked.slot, asked.block)).cloned().unwrap_or_default();
+    let page = bench.pages.draw(&mut round.prng);
     let answer = compare::save(round, image, asked, [&expected, &page]);
     if answer == 0 {
-        memory.insert((asked.slot, asked.block), page.to_vec());
+        bench.seen.insert((asked.slot, asked.block), page.to_vec());
     } else if round.prng.one_in(2) {
-        look(round, image, asked, memory);
+        look(round, image, asked, bench);
     }
 }

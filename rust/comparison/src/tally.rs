@@ -46,6 +46,9 @@ const CARD_CALLS: [Call; 5] =
 const OWN: [(Call, &[u64]); 2] =
     [(Call::CardWrite, &[0, 26, 29, 33, 34]), (Call::CardDelete, &[0, 31, 33])];
 
+/// The calls that save pages.
+const SAVES: [Call; 3] = [Call::FlashSave, Call::SlotSave, Call::SlotClaim];
+
 impl Call {
     pub fn name(self) -> &'static str {
         match self {
@@ -95,6 +98,8 @@ pub struct Tally {
     answers: Counts,
     /// Those of the answers that were given on a sound card, by calls that change it.
     own: Counts,
+    /// Of each call those that were done with an idle save.
+    idle: [u64; CALLS],
     typed: u64,
     differences: u64,
 }
@@ -102,7 +107,7 @@ pub struct Tally {
 impl Tally {
     pub fn new() -> Tally {
         let none = [[0; NUMBERS]; CALLS];
-        Tally { answers: none, own: none, typed: 0, differences: 0 }
+        Tally { answers: none, own: none, idle: [0; CALLS], typed: 0, differences: 0 }
     }
 
     /// Whether the number is one that this call may give; only then is it counted.
@@ -121,6 +126,10 @@ impl Tally {
         }
     }
 
+    pub fn count_idle(&mut self, call: Call) {
+        self.idle[call as usize] += 1;
+    }
+
     pub fn count_typed(&mut self) {
         self.typed += 1;
     }
@@ -134,7 +143,8 @@ impl Tally {
     }
 
     /// The numbers answered fewer than `least` times, counted over flash, slots and cards apart, 0 for each
-    /// slot call, and what a call that changes a card answers on a sound one for each such call.
+    /// slot call, what a call that changes a card answers on a sound one for each such call, and the calls
+    /// with fewer idle saves.
     pub fn below(&self, least: u64) -> Vec<String> {
         let few = |calls: &[Call], number| self.total(calls, number) < least;
         let flash = FLASH.into_iter().filter(|&number| few(&FLASH_CALLS, number));
@@ -142,12 +152,14 @@ impl Tally {
         let undone = SLOT_CALLS.into_iter().filter(|&call| few(&[call], 0));
         let card = CARD.into_iter().filter(|&number| few(&CARD_CALLS, number));
         let own = own_counts(&self.own).filter(|&(_, _, count)| count < least);
+        let idle = SAVES.into_iter().filter(|&call| self.idle[call as usize] < least);
         flash
             .map(|number| format!("flash {number}"))
             .chain(slot.map(|number| format!("slot {number}")))
             .chain(undone.map(|call| format!("{} 0", call.name())))
             .chain(card.map(|number| format!("card {number}")))
             .chain(own.map(|(call, number, _)| format!("{call} {number} on a sound card")))
+            .chain(idle.map(|call| format!("{} idle", call.name())))
             .collect()
     }
 
@@ -158,6 +170,10 @@ impl Tally {
         self.rows(&mut text, &CARD_CALLS, &CARD);
         for (call, number, count) in own_counts(&self.own) {
             writeln!(text, "{call} {number} on a sound card: {count}").unwrap();
+        }
+        for call in SAVES {
+            writeln!(text, "{} 0 with an idle save: {}", call.name(), self.idle[call as usize])
+                .unwrap();
         }
         let calls: u64 = self.answers.iter().flatten().sum();
         let Tally { typed, differences, .. } = self;
@@ -247,6 +263,15 @@ mod tests {
         }
         let few = tally.below(1);
         assert!(few.contains(&"slot_save 0".into()) && !few.contains(&"slot 0".into()));
+    }
+
+    #[test]
+    fn a_save_that_is_never_idle_is_missed() {
+        let mut tally = Tally::new();
+        tally.count_idle(Call::FlashSave);
+        tally.count_idle(Call::SlotClaim);
+        let few = tally.below(1);
+        assert!(few.contains(&"slot_save idle".into()) && !few.contains(&"flash_save idle".into()));
     }
 
     #[test]

@@ -83,6 +83,19 @@ fn each_slot_is_claimed_where_it_is_the_lowest_not_valid() {
 
 /// Up to four blocks free, each of them FF or not: appends and compactions of both saves.
 #[test]
+fn a_header_block_that_is_there_is_not_saved_again() {
+    let header = header(50);
+    for there in [0, 1] {
+        let mut made = all_but(50, &[there]);
+        let mut image = made.bytes.clone();
+        assert_eq!(same_claim(&mut image, &header), Ok(50));
+        let missing = 1 - there;
+        made.append(number(50, missing), blocks(&header)[usize::from(missing)]);
+        assert!(image == made.bytes);
+    }
+}
+
+#[test]
 fn both_saves_of_a_claim_go_their_ways() {
     for free in 0..=4 {
         for spoilt in 0..1 << free {

@@ -58,7 +58,7 @@ pub fn read(image: &[u8], partition: u8, number: u64, page: &mut [u8]) -> u32 {
 }
 
 /// Gives a logical block new contents, provided its present ones are still as `expected`: 0 bytes stand
-/// for nothing, 60 for a page.
+/// for nothing, 60 for a page. The bytes that are there already change nothing.
 pub fn save(image: &mut [u8], partition: u8, number: u64, expected: &[u8], page: &[u8]) -> u32 {
     number_of(try_save(image, partition, number, expected, page))
 }
@@ -96,6 +96,9 @@ fn try_save(
     };
     if blocks::find(layout.allocated(image), number) != expected {
         return Err(CHANGED);
+    }
+    if expected == Some(page) {
+        return Ok(());
     }
     let new = blocks::sealed(number, page);
     match layout.erased_block(image) {

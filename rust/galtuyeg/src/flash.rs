@@ -207,7 +207,8 @@ pub fn read(image: &[u8], partition: u8, number: u64) -> Result<[u8; PAGE_BYTES]
 }
 
 /// Saves a page as the contents of a number, if these are still `expected`, what the writer last saw
-/// there: a page, or `None` for nothing. All other numbers keep their contents.
+/// there: a page, or `None` for nothing. All other numbers keep their contents. A page that is there already
+/// changes no byte.
 ///
 /// # Errors
 /// [`Refusal`] 1 to 6 and 9. The image is then as it was.

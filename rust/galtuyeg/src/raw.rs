@@ -11,7 +11,7 @@ use crate::ffi;
 pub use crate::ffi::{CardChecked, CardEntry, CardVerdict, NextLive, Report, Slot};
 
 /// The library's interface that this crate was written for: `GALTUYEG_VERSION` of `include/galtuyeg.h`.
-pub const VERSION: u32 = 4;
+pub const VERSION: u32 = 5;
 
 /// The interface of the library that is linked. Where it isn't [`VERSION`] the two don't fit.
 pub fn version() -> u32 {
@@ -54,7 +54,7 @@ pub fn flash_read(image: &[u8], partition: u8, number: u64, page: &mut [u8]) -> 
 }
 
 /// Saves `page`, 60 bytes, as the contents of a number, if these are still what the writer last saw:
-/// `expected` is 60 bytes, or 0 for nothing there. 0 to 6, 8, 9.
+/// `expected` is 60 bytes, or 0 for nothing there. A page that is there already changes no byte. 0 to 6, 8, 9.
 pub fn flash_save(
     image: &mut [u8],
     partition: u8,
@@ -105,7 +105,7 @@ pub fn slot_list(image: &[u8], partition: u8, from: u64) -> Slot {
 }
 
 /// The slot with the product number of this header, two blocks of 60 bytes; where there is none, the lowest
-/// that isn't valid, where the two are saved: 0 to 5, 8, 41, 40.
+/// that isn't valid, where the two are saved, but for one that is there already: 0 to 5, 8, 41, 40.
 pub fn slot_claim(image: &mut [u8], partition: u8, first: &[u8], second: &[u8]) -> Slot {
     // SAFETY: each pointer and length are of one slice, borrowed for the call; only `image` is written,
     // and it overlaps nothing, being a `&mut`.
@@ -140,7 +140,8 @@ pub fn slot_read(image: &[u8], partition: u8, slot: u64, block: u64, page: &mut 
 }
 
 /// Saves `page`, 60 bytes, as data block 0 or 1 of a valid slot, if that is still what the writer last saw:
-/// `expected` is 60 bytes, or 0 for nothing there. 0 to 5, 8, 42, 43, 9.
+/// `expected` is 60 bytes, or 0 for nothing there. A page that is there already changes no byte. 0 to 5, 8, 42,
+/// 43, 9.
 pub fn slot_save(
     image: &mut [u8],
     partition: u8,

@@ -175,7 +175,7 @@ impl Iterator for ValidSlots<'_> {
 impl FusedIterator for ValidSlots<'_> {}
 
 /// The slot that [`find`] gives for the header's product number, and then nothing has changed; else the
-/// lowest slot that isn't valid, where the header's two blocks are saved.
+/// lowest slot that isn't valid, where the header's two blocks are saved, but for one that is there already.
 ///
 /// # Errors
 /// [`Refusal`] 1 to 5, 41 and 40. The image is then as it was.
@@ -201,7 +201,8 @@ pub fn read(
 }
 
 /// Saves a page as the contents of a valid slot's data block, if these are still `expected`, what the writer
-/// last saw there: a page, or `None` for nothing. All other numbers keep their contents.
+/// last saw there: a page, or `None` for nothing. All other numbers keep their contents. A page that is there
+/// already changes no byte.
 ///
 /// # Errors
 /// [`Refusal`] 1 to 5, 42 and 9. The image is then as it was.

@@ -93,7 +93,8 @@ pub fn read(image: &[u8], partition: u8, number: u64, page: &mut [u8]) -> u32 {
 }
 
 /// Gives a logical block new contents, provided its present ones are still
-/// as `expected`: 0 bytes stand for nothing, 60 for a page.
+/// as `expected`: 0 bytes stand for nothing, 60 for a page. The bytes that
+/// are there already change nothing.
 pub fn save(image: &mut [u8], partition: u8, number: u64, expected: &[u8], page: &[u8]) -> u32 {
     try_save(image, partition, number, expected, page).map_or_else(|refusal| refusal, |()| DONE)
 }
@@ -148,7 +149,8 @@ pub(crate) fn fill(allocated: &[Block], number: u16, page: &mut Page) -> Result<
     Ok(())
 }
 
-/// Gives a legal number new contents, provided its present ones are as `expected`.
+/// Gives a legal number new contents, provided its present ones are as
+/// `expected`. Where the page is there already, nothing changes.
 pub(crate) fn replace(
     image: &mut [u8],
     layout: Layout,
@@ -159,11 +161,13 @@ pub(crate) fn replace(
     if find(layout.allocated(image), number) != expected {
         return Err(CHANGED);
     }
-    store(image, layout, number, page);
+    if expected != Some(page) {
+        store(image, layout, number, page);
+    }
     Ok(())
 }
 
-/// Gives a legal number new contents, whatever its present ones are.
+/// Gives a legal number new contents that differ from its present ones.
 pub(crate) fn store(image: &mut [u8], layout: Layout, number: u16, page: &Page) {
     let block = build_block(number, page);
     if layout.can_append(image) {

@@ -52,7 +52,8 @@ pub fn list(image: &[u8], partition: u8, from: u64) -> Result<u64, u32> {
 }
 
 /// Gives the slot that has the header's product number. Where none has, the
-/// header is first saved at the lowest slot that isn't valid.
+/// header is first saved at the lowest slot that isn't valid; a block of it
+/// that is there already stays.
 pub fn claim(image: &mut [u8], partition: u8, first: &[u8], second: &[u8]) -> Result<u64, u32> {
     let layout = open(image, partition)?;
     let first: &Page = first.try_into().map_err(|_| WRONG_BUFFER)?;
@@ -72,8 +73,14 @@ pub fn claim(image: &mut [u8], partition: u8, first: &[u8], second: &[u8]) -> Re
     }
     let slot = lowest_not_valid.ok_or(ALL_TAKEN)?;
     let number = number_of_block(slot, 0);
-    flash::store(image, layout, number, first);
-    flash::store(image, open(image, partition)?, number + 1, second);
+    let first_is_there = pages.page(slot, 0) == Some(first);
+    let second_is_there = pages.page(slot, 1) == Some(second);
+    if !first_is_there {
+        flash::store(image, layout, number, first);
+    }
+    if !second_is_there {
+        flash::store(image, open(image, partition)?, number + 1, second);
+    }
     Ok(slot)
 }
 
@@ -92,7 +99,8 @@ pub fn read(image: &[u8], partition: u8, asked: DataBlock, page: &mut [u8]) -> u
 }
 
 /// Gives a slot's data block new contents, provided its present ones are
-/// still as `expected`: 0 bytes stand for nothing, 60 for a page.
+/// still as `expected`: 0 bytes stand for nothing, 60 for a page. The bytes
+/// that are there already change nothing.
 pub fn save(
     image: &mut [u8],
     partition: u8,
@@ -200,10 +208,14 @@ impl<'a> Pages<'a> {
         Pages(pages)
     }
 
+    /// The contents of one of a slot's four blocks.
+    fn page(&self, slot: u64, block: u64) -> Option<&'a Page> {
+        self.0[usize::from(number_of_block(slot, block))]
+    }
+
     /// The header of a valid slot.
     fn header(&self, slot: u64) -> Option<Header<'a>> {
-        let page = |block| self.0[usize::from(number_of_block(slot, block))];
-        let (first, second) = (page(0)?, page(1)?);
+        let (first, second) = (self.page(slot, 0)?, self.page(slot, 1)?);
         Some(Header { first, second }).filter(|header| header.is_right())
     }
 }

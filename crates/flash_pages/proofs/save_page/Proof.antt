@@ -1,9 +1,10 @@
 -- `flash_pages::save_page` meets its contract: each `return` is a row of the table. Assumes nothing.
-use mathlib.Core.Path.{_≡_, sym, _∙_}
+use mathlib.Core.Path.{_≡_, refl, sym, _∙_}
 use mathlib.Core.Bool.{true, false}
 use borrow.Author.Tests.{not-true, not-false}
 use Rattle.flash_model.specs.Measures.{legalNumber}
-use Rattle.flash_model.specs.Calls.{wrongLengths}
+use Rattle.flash_model.specs.Partition.{row}
+use Rattle.flash_model.specs.Calls.{changedSince, wrongLengths}
 use Rattle.flash_model.proofs.MeasureLaws.{legal-le}
 use Rattle.flash_partition.proofs.UsableLaws.{usable-legal}
 use Rattle.flash_pages.proofs.StoreRules.{save-6, save-8, save-9, save-0, page-60}
@@ -44,18 +45,36 @@ returns-3 c =
     let e = past-8 (c .before) in
     save-9 (asked e .pre) _ _ _ (legal (past-6 e)) (right e) _ (c .before .changed-row .ensures) (c .if3 .taken)
 
-store-requires : tie.Need-store-requires
-store-requires c κs =
-    let e = past-8 (c .before .before) in
-    let a = asked e in
-    (a .pre, (legal-le (a .args .log .m .size) (a .args .number) (legal (past-6 e)), page-60 (a .pre) (a .args .number) (a .args .expected .now) (a .args .page .now) (right e)))
+-- ---- an accepted save: the place behind the test of 9, and behind that of the page
+
+abbrev past-9 : tie.After-same → tie.Else3
+past-9 c = c .before
+
+abbrev accepted : tie.Else3 → tie.Else2
+accepted c = past-8 (c .before)
+
+passed : (c : tie.Else3) → 0 ≡ row 9 (changedSince (asked (accepted c) .args .image .now) (asked (accepted c) .args .number) (asked (accepted c) .args .expected .now)) 0
+passed c = sym (c .if3 .left) ∙ c .before .changed-row .ensures
 
 returns-4 : tie.Need-returns-4
 returns-4 c =
-    let s = c .before .before in
-    let t = s .before .before in
-    let e = past-8 (t .before) in
-    save-0 (asked e .pre) _ _ _ (legal (past-6 e)) (right e) (sym (t .if3 .left) ∙ t .before .changed-row .ensures) _ (s .store .ensures)
+    let t = past-9 (c .before) in
+    let e = accepted t in
+    save-0 (asked e .pre) _ _ _ (legal (past-6 e)) (right e) (passed t) true (sym (c .if4 .taken) ∙ c .before .same .ensures) _ refl
+
+write-page-requires : tie.Need-write-page-requires
+write-page-requires c κs =
+    let e = accepted (past-9 (c .before .before)) in
+    let a = asked e in
+    (a .pre, (legal-le (a .args .log .m .size) (a .args .number) (legal (past-6 e)), page-60 (a .pre) (a .args .number) (a .args .expected .now) (a .args .page .now) (right e)))
+
+returns-5 : tie.Need-returns-5
+returns-5 c =
+    let w = c .before .before in
+    let f = w .before .before in
+    let t = past-9 (f .before) in
+    let e = accepted t in
+    save-0 (asked e .pre) _ _ _ (legal (past-6 e)) (right e) (passed t) false (sym (f .if4 .left) ∙ f .before .same .ensures) _ (w .write-page .ensures)
 
 pub save-page-spec : {M : Type 1} → statement M
 save-page-spec =
@@ -68,6 +87,9 @@ save-page-spec =
     (λ c κs. (asked (c .before) .pre, legal (past-6 (c .before))))
     (λ c. search needs)
     returns-3
-    store-requires
+    (λ c κs. search needs)
     (λ c. search needs)
-    returns-4)
+    returns-4
+    write-page-requires
+    (λ c. search needs)
+    returns-5)

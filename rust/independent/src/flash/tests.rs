@@ -340,9 +340,46 @@ fn save_compares_with_the_expected_page() {
         assert_eq!(save(&mut image, 2, 0, &expected, &[2; 60]), 9);
     }
     assert_eq!(image, before);
-    // The bytes already there are saved like any others.
-    assert_eq!(save(&mut image, 2, 0, &[1; 60], &[1; 60]), 0);
-    assert_eq!(report(&image, 2).map(|r| (r.used, r.live)), Ok((2, 1)));
+}
+
+#[test]
+fn the_bytes_already_there_change_nothing() {
+    let mut image = formatted(16_384, 2, 0);
+    for page in [[1; 60], [2; 60]] {
+        let expected = contents(&image, 0);
+        let expected = expected.as_ref().map_or(&[][..], |page| page);
+        assert_eq!(save(&mut image, 2, 0, expected, &page), 0);
+    }
+    // With a block to append to, and with none, where another page compacts.
+    for full in [false, true] {
+        if full {
+            image[3 * 64] = 0;
+        }
+        let before = image.clone();
+        assert_eq!(save(&mut image, 2, 0, &[2; 60], &[2; 60]), 0);
+        // It is refused as any other save is.
+        assert_eq!(save(&mut image, 2, 0, &[1; 60], &[2; 60]), 9);
+        assert_eq!(save(&mut image, 2, 0, &[], &[2; 60]), 9);
+        assert_eq!(save(&mut image, 2, 254, &[2; 60], &[2; 60]), 6);
+        assert_eq!(save(&mut image, 2, 0, &[2; 59], &[2; 59]), 8);
+        assert_eq!(image, before);
+    }
+    assert_eq!(save(&mut image, 2, 0, &[2; 60], &[1; 60]), 0);
+    assert_eq!(report(&image, 2).map(|r| (r.used, r.live)), Ok((1, 1)));
+}
+
+#[test]
+fn an_old_page_is_saved_again_and_so_are_zeros_where_nothing_is() {
+    let mut image = formatted(16_384, 2, 0);
+    for (expected, page) in [(&[][..], [1; 60]), (&[1; 60], [2; 60]), (&[2; 60], [1; 60])] {
+        assert_eq!(save(&mut image, 2, 0, expected, &page), 0);
+    }
+    assert_eq!(report(&image, 2).map(|r| (r.used, r.live)), Ok((3, 1)));
+    for (number, byte) in [(1, 0), (2, 0xFF)] {
+        assert_eq!(save(&mut image, 2, number, &[], &[byte; 60]), 0);
+        assert_eq!(contents(&image, number), Some([byte; 60]));
+    }
+    assert_eq!(report(&image, 2).map(|r| (r.used, r.live)), Ok((5, 3)));
 }
 
 #[test]

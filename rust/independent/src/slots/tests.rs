@@ -112,6 +112,21 @@ fn a_claim_saves_the_header_and_is_found_again() {
 }
 
 #[test]
+fn a_claim_leaves_a_header_block_that_is_there_already() {
+    let header = header(&product(1), 9);
+    for there in [0, 1] {
+        let mut image = formatted();
+        put(&mut image, 24 + there as u64, &header[there]);
+        let before = image.clone();
+        assert_eq!(claimed(&mut image, &header), Ok(0));
+        assert_eq!(contents(&image, 25 - there as u64), Some(header[1 - there]));
+        assert_eq!(image[..2 * 64], before[..2 * 64]);
+        let counts = flash::report(&image, 3).map(|report| (report.used, report.live));
+        assert_eq!(counts, Ok((2, 2)));
+    }
+}
+
+#[test]
 fn the_hundred_and_first_is_refused() {
     let mut image = formatted();
     for slot in 0..100 {

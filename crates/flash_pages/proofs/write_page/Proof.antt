@@ -1,14 +1,14 @@
--- `flash_pages::store` meets its contract. Assumes nothing.
+-- `flash_pages::write_page` meets its contract. Assumes nothing.
 use mathlib.Core.Path.{_≡_, sym, _∙_}
 use mathlib.Core.Bool.{true}
 use native.Mathlib.Omega.{arith}
 use Rattle.flash_model.specs.Update.{appendBlock}
 use Rattle.flash_partition.proofs.UsableLaws.{usable-measured, usable-has}
 use Rattle.flash_pages.specs.Rows.{canAppend}
-use Rattle.flash_pages.proofs.StoreRules.{free-behind, appends, saved-append, saved-compact}
+use Rattle.flash_pages.proofs.StoreRules.{free-behind, appends, written-append, written-compact}
 use borrow.Author.Needs.{needs}
-use Rattle.flash_pages.proofs.store.Statement.{statement}
-use Rattle.flash_pages.proofs.store.Tie as tie
+use Rattle.flash_pages.proofs.write_page.Statement.{statement}
+use Rattle.flash_pages.proofs.write_page.Tie as tie
 
 abbrev start : tie.After-can-append → tie.Start
 start c = c .before .before .before .before
@@ -39,17 +39,17 @@ returns c =
     let p = c .before .before in
     let t = tested (p .before) in
     let a = start (t .before) in
-    p .append .ensures ∙ saved-append (a .pre .0) (can t) (a .args .number) _ (a .args .page .now) (omega arith)
+    p .append .ensures ∙ written-append (a .pre .0) (can t) (a .args .number) _ (a .args .page .now) (omega arith)
 
 returns-2 : tie.Need-returns-2
 returns-2 c =
     let k = c .before .before in
     let e = k .before .before in
     let a = start (e .before) in
-    k .compact .ensures ∙ saved-compact (a .pre .0) (sym (e .if1 .left) ∙ e .before .can-append .ensures) (a .args .number) (a .args .page .now)
+    k .compact .ensures ∙ written-compact (a .pre .0) (sym (e .if1 .left) ∙ e .before .can-append .ensures) (a .args .number) (a .args .page .now)
 
-pub store-spec : {M : Type 1} → statement M
-store-spec =
+pub write-page-spec : {M : Type 1} → statement M
+write-page-spec =
     tie.close
     (tie.spec
     (λ c κs. c .before .before .before .pre .0)
