@@ -1,7 +1,7 @@
 #!/usr/bin/env python3
 """report.py PROGRAM: runs the report program on images made here and compares what it prints with what a second model says.
 
-The model of a partition is that of vectors/flash_runs.py, written from document 01 alone. Ends with a line that counts the
+The model of a partition is that of vectors/flash_runs.py, written from documents 01 and 02 alone. Ends with a line that counts the
 outputs compared, or with the first difference and status 1."""
 import fcntl
 import os

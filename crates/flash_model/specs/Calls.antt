@@ -178,7 +178,7 @@ filledBuffers image (onPage (slotSave partition slot block expected page)) = exp
 filledBuffers image (onWhole w) = buffersOf (onWhole w)
 filledBuffers image (onPages c) = buffersOf (onPages c)
 
--- Only a save may change the image; what it leaves says `saved`.
+-- Only a save may change the image; `saved` says what it leaves.
 abbrev pub pageImage : List ℕ → PageCall → List ℕ
 pageImage image (read partition n buffer) = image
 pageImage image (save partition n expected page) = saved image n page

@@ -127,7 +127,8 @@ pub record ClaimWritten (image one other image′ : List ℕ) (slot : ℕ) : Typ
   pub is-found : LowestProduct image′ slot (take 10 (drop 2 (one ++ other)))
   pub other-pages : (m : ℕ) → m ≢ 24 + 4 * slot → m ≢ 25 + 4 * slot → contents image′ m ≡ contents image m
 
--- What a claim that writes counts as in a run: "saves to the blocks it writes there, with what stands there as last seen".
+-- What a claim that writes counts as in a run: "saves to the blocks it writes there, with what stands there as last seen". A save of
+-- the two that is idle is a save too.
 pub record CountsAsSaves (image : List ℕ) (partition : ℕ) (one other : List ℕ) : Type 0 where
   pub slot : ℕ
   pub is-lowest : LowestNotValid image slot

@@ -1,4 +1,4 @@
--- What a read leaves in its buffer where refusals 1 to 5 don't apply, and which way an accepted save goes.
+-- What a read leaves in its buffer where refusals 1 to 5 don't apply, and which way a page is written.
 -- Assumes nothing.
 use Prim.Native.Nat.{ℕ}
 use mathlib.Core.Bool.{Bool, cond}

@@ -24,7 +24,7 @@ ghost use Rattle.slots.specs.SlotUsable.{SlotUsable};
 ghost use Rattle.slots.specs.SlotAnswers.{slotOr, claimedImage};
 
 // Saves a page as the contents of a number, with what stands there as expected. The image is opened anew, since the save before
-// has changed which blocks are used, whether it appended or compacted.
+// may have changed which blocks are used.
 fn save_over(image: &mut [u8], number: usize, page: &[u8])
     requires { ⌜ refusal (now image) 3 ≡ 0 ⌝ }
     requires { ⌜ (number ≤ topNumber (length (now image))) × (length (now page) ≡ 60) ⌝ }

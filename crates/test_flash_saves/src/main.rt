@@ -1,5 +1,6 @@
 // Runs the calls on flash partitions and prints what they answer: two writers, both ways of a save, by append and by
-// compaction, and idle saves. tests/vectors/flash_runs.py prints the same lines from a model of its own; they are the file stdout beside src/.
+// compaction, and idle saves. tests/vectors/flash_runs.py prints the same lines from a model of its own; they are the file
+// stdout beside src/.
 mod saves;
 
 fn main() {

@@ -96,7 +96,7 @@ fn after_spoiled(image: &mut [u8; 32768]) {
     test_printing::print_report(b"after the append", image, 3);
 }
 
-// A line: what a save of number 24 answers whose page is that of the round and is there already.
+// What a save of number 24 answers whose page is that of the round and is there already, and the report after it.
 fn print_idle_save(image: &mut [u8], round: usize) {
     let page = page_of(24, round);
     print_save_seen(b"save the page that is there", image, &page, round);

@@ -3,7 +3,7 @@
 use inputs::flash::PAGE;
 use inputs::Prng;
 
-/// Any 60 bytes, now and then all alike, and often such as could be taken for nothing.
+/// Any 60 bytes, now and then all alike, zeros and FF among them.
 pub fn page(prng: &mut Prng) -> [u8; PAGE] {
     match prng.below(8) {
         0 => [prng.pick(&[0, 0xff]); PAGE],

@@ -53,7 +53,7 @@ pub fn grown(round: &mut Round) {
     ask_everything(round, &mut image, own, top);
 }
 
-/// Every number live: each save takes the long way.
+/// Every number live: a page that isn't there takes the long way.
 pub fn full(round: &mut Round) {
     let partition = builder::full(&mut round.prng);
     let (own, top) = (partition.number, partition.size.top());
@@ -164,11 +164,12 @@ fn save_over_contents(round: &mut Round, image: &mut Lent, own: u8, top: u64) {
     compare::save(round, image, &asked);
 }
 
-/// A page to be saved: now and then what is there, what is expected, or one of these but for a bit.
+/// A page to be saved: now and then what is there, what is expected, or one of these but for a bit. Where that is
+/// nothing, it is any page.
 pub fn new_page(prng: &mut Prng, there: &[u8], expected: &[u8]) -> Vec<u8> {
     let mut known = if prng.one_in(2) { there.to_vec() } else { expected.to_vec() };
     match prng.below(8) {
-        0 | 1 => known,
+        0 | 1 if !known.is_empty() => known,
         2 if !known.is_empty() => {
             prng.flip_bit(&mut known);
             known

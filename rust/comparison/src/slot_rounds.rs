@@ -71,19 +71,20 @@ pub fn taken(round: &mut Round) {
     ask_everything(round, &mut image);
 }
 
-/// All slots valid. One of them loses a block of its header and is claimed again, which finds the other there.
+/// All slots valid. A bit is turned in a header block of one of them, which is claimed again: where the slot is no
+/// longer valid, the claim finds the other block there.
 pub fn mended(round: &mut Round) {
     let partition = builder::taken(&mut round.prng, 0);
     let mut image = round.lend(&partition.bytes);
     for _ in 0..6 {
         let slot = round.prng.below(SLOTS.into()) as u64;
         let header = [0, 1].map(|block| compare::header_block(image.before(), slot, block));
-        let lost = round.prng.below(2);
-        let mut other = header[lost].clone();
+        let turned = round.prng.below(2);
+        let mut other = header[turned].clone();
         round.prng.flip_bit(&mut other);
-        let number = number(slot as u16, lost as u16).into();
+        let number = number(slot as u16, turned as u16).into();
         image.change(|bytes| {
-            flash::save(bytes, PARTITION, number, &header[lost], &other);
+            assert_eq!(flash::save(bytes, PARTITION, number, &header[turned], &other), 0);
         });
         compare::claim(round, &mut image, PARTITION, [&header[0], &header[1]]);
     }

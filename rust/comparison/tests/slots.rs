@@ -1,5 +1,5 @@
 //! Slots that the rounds' random ones seldom are: a header with any one bit turned, each slot the lowest that
-//! is not valid, each free block that a claim's two saves look at spoilt or not.
+//! is not valid, each free block that a claim's two saves look at spoilt or not, either of these idle.
 
 use ::independent::slots::{self as independent, DataBlock};
 use galtuyeg::raw;
@@ -81,7 +81,6 @@ fn each_slot_is_claimed_where_it_is_the_lowest_not_valid() {
     }
 }
 
-/// Up to four blocks free, each of them FF or not: appends and compactions of both saves.
 #[test]
 fn a_header_block_that_is_there_is_not_saved_again() {
     let header = header(50);
@@ -95,6 +94,7 @@ fn a_header_block_that_is_there_is_not_saved_again() {
     }
 }
 
+/// Up to four blocks free, each of them FF or not: appends and compactions of both saves.
 #[test]
 fn both_saves_of_a_claim_go_their_ways() {
     for free in 0..=4 {
