@@ -153,10 +153,13 @@ fn idle_saves(sample: &Sample) -> Vec<Save<'_>> {
     sample.spread(SPREAD).map(save).collect()
 }
 
+fn saved_by(save: SaveCall) -> impl Fn(&mut Vec<u8>, &Save) -> u32 {
+    move |image, asked| asked.by(save, image)
+}
+
 fn idle(sample: &Sample) -> Row<'_> {
-    let idle = |save: SaveCall| move |image: &mut Vec<u8>, asked: &Save| asked.by(save, image);
     let job = job("save, idle", sample, idle_saves(sample), sample.partition.bytes.clone());
-    job.row(idle(raw::flash_save), SAVES.map(idle))
+    job.row(saved_by(raw::flash_save), SAVES.map(saved_by))
 }
 
 /// Each save finds the image as it was: before it, the block and the bitmap that an append changes are
@@ -180,9 +183,8 @@ fn append(sample: &Sample) -> Row<'_> {
 }
 
 fn compaction(sample: &Sample) -> Row<'_> {
-    let compact = |save: SaveCall| move |image: &mut Vec<u8>, asked: &Save| asked.by(save, image);
     let job = job("save, compaction", sample, saves(sample), sample.spoilt());
-    Job { restored: Restored::EachCall, ..job }.row(compact(raw::flash_save), SAVES.map(compact))
+    Job { restored: Restored::EachCall, ..job }.row(saved_by(raw::flash_save), SAVES.map(saved_by))
 }
 
 fn erase(sample: &Sample) -> Row<'_> {

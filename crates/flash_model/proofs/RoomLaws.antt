@@ -1,5 +1,5 @@
 -- The holders have different legal numbers: they are as many as the live numbers, and without one of these there is room
--- for a new block. Blocks with different numbers count the live ones of any image. Assumes nothing.
+-- for a new block. Also: the live numbers of any image, counted by blocks with different numbers. Assumes nothing.
 use Prim.Native.Nat.{ℕ, zero, suc, _≤_, _<_}
 use mathlib.Core.Path.{_≡_, refl, sym, ap, _∙_}
 use mathlib.Core.Bool.{Bool, true, false, not, cond}
@@ -14,7 +14,7 @@ use Rattle.words.proofs.ListLaws.{All, all-mono, all-map, keep-passes, keep-map
 use Rattle.words.proofs.SearchLaws.{lastWith, last-any}
 use Rattle.words.proofs.Distinct.{except, keep-distinct, except-has, room-for, count-has}
 use Rattle.words.proofs.JoinLaws.{distinct-append}
-use Rattle.flash_model.specs.Measures.{capacity, topNumber, userBlocks, logicalNumbers}
+use Rattle.flash_model.specs.Measures.{capacity, topNumber, legalNumber, userBlocks, logicalNumbers}
 use Rattle.flash_model.specs.UserBlock.{number, payload}
 use Rattle.flash_model.specs.Partition.{blockAt, holder, contents, live}
 use Rattle.flash_model.specs.Update.{isHolder, holders, otherHolders}
@@ -102,11 +102,14 @@ module _ (image : List ℕ) where
       omega (arith, length-map l (blockAt image), keep-length (isHolder image) 1 (capacity (length image)))
 
   module _ (m : Measured (length image)) where
+    pub legal-below : (kept : List (List ℕ)) → All (λ b. legalNumber (length image) (number b) ≡ true) kept → All (λ x. x < capacity (length image)) (map number kept)
+    legal-below kept legal =
+        all-map number (λ x. x < capacity (length image)) kept
+        (all-mono (λ b. legalNumber (length image) (number b) ≡ true) (λ b. number b < capacity (length image))
+        (λ b e. omega (arith, legal-le (length image) (number b) e, m .top-number)) kept legal)
+
     numbers-below : All (λ x. x < capacity (length image)) (map number (holders image))
-    numbers-below =
-        all-map number (λ x. x < capacity (length image)) (holders image)
-        (all-holders (λ b. number b < capacity (length image))
-        (λ k h. omega (arith, legal-le (length image) (number (blockAt image k)) (h .legal), m .top-number)))
+    numbers-below = legal-below (holders image) (all-holders (λ b. legalNumber (length image) (number b) ≡ true) (λ k h. h .legal))
 
     pub others-fit : (n : ℕ) → n ≤ topNumber (length image) → suc (length (otherHolders image n)) ≤ capacity (length image)
     unfolding otherHolders

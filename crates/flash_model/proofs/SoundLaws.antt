@@ -79,3 +79,6 @@ module _ (image image′ : List ℕ) (header : take 64 image′ ≡ take 64 imag
         same-length = l;
         same-header = header;
       }
+
+pub keeps-refl : (image : List ℕ) → Sound image → Keeps image image
+keeps-refl image s = record { still-sound = s; same-length = refl; same-header = refl }

@@ -23,7 +23,7 @@ use Rattle.flash_model.specs.Runs.{ownsHeader, namesData, onOwned}
 use Rattle.flash_model.specs.Demands.{Keeps}
 use Rattle.flash_model.proofs.MeasureLaws.{le-legal, above-illegal}
 use Rattle.flash_model.proofs.RefusalLaws.{tested-refusal}
-use Rattle.flash_model.proofs.SoundLaws.{tests-of, header-number}
+use Rattle.flash_model.proofs.SoundLaws.{tests-of, header-number, keeps-refl}
 use Rattle.flash_model.proofs.SlotLaws.{right-bytes, bytes-right, slot-refused}
 use Rattle.flash_model.proofs.SaveLaws.{erased-keeps, erased-contents, saved-keeps, saved-contents}
 use Rattle.flash_model.proofs.CallLaws.{same-seen, seen-same}
@@ -300,9 +300,6 @@ after-done image c e = rw e
 after-refused : (image : List ℕ) (c : Call) (refused : ℕ) → codeOf image c ≡ suc refused → after image c ≡ image
 unfolding after accepted
 after-refused image c refused e = rw (e, eqb·suc-zero refused)
-
-keeps-refl : (image : List ℕ) → Sound image → Keeps image image
-keeps-refl image s = record { still-sound = s; same-length = refl; same-header = refl }
 
 module _ (image : List ℕ) (s : Sound image) where
   -- of a call: what its image keeps, whether it is accepted or not

@@ -1,24 +1,22 @@
 -- How many blocks are used after an append and after a compaction, and that they are as many as the live numbers after the
 -- latter. Assumes nothing.
-use Prim.Native.Nat.{ℕ, suc, _≤_, _<_}
+use Prim.Native.Nat.{ℕ, suc, _≤_}
 use mathlib.Core.Path.{_≡_, sym, ap, _∙_}
-use mathlib.Core.Bool.{true}
 use mathlib.Core.List.{List, _∷_, [], _++_, map}
 use native.Mathlib.Omega.{arith}
 use lib.ListN.{length}
 use Rattle.words.specs.Lists.{isSome, Distinct}
-use Rattle.words.proofs.ListLaws.{All, all-mono, all-map}
-use Rattle.flash_model.specs.Measures.{capacity, topNumber, legalNumber}
+use Rattle.flash_model.specs.Measures.{capacity, topNumber}
 use Rattle.flash_model.specs.UserBlock.{number, newBlock}
 use Rattle.flash_model.specs.Partition.{allocated, Sound, live, used}
 use Rattle.flash_model.specs.Update.{appended, holders, otherHolders, compacted, erased}
-use Rattle.flash_model.proofs.MeasureLaws.{Measured, legal-le}
+use Rattle.flash_model.proofs.MeasureLaws.{Measured}
 use Rattle.flash_model.proofs.SequenceLaws.{UpTo, up-to-one}
 use Rattle.flash_model.proofs.BlockLaws.{new-number}
 use Rattle.flash_model.proofs.SoundLaws.{sound-measured, used-most, order-used, allocated-used, up-to-order}
 use Rattle.flash_model.proofs.AppendLaws.{appended-length, appended-up-to}
 use Rattle.flash_model.proofs.CompactLaws.{compacted-length, compacted-up-to}
-use Rattle.flash_model.proofs.RoomLaws.{some-numbered, live-count, distinct-numbers, distinct-with}
+use Rattle.flash_model.proofs.RoomLaws.{some-numbered, live-count, distinct-numbers, distinct-with, legal-below}
 use Rattle.flash_model.proofs.SaveLaws.{Writable, compacted-contents, holders-writable, others-writable}
 
 -- exactly the first u are allocated
@@ -43,16 +41,10 @@ module _ (image : List ℕ) (s : Sound image) where
     pub compacted-used : used (compacted image kept) ≡ length kept
     compacted-used = used-is (compacted image kept) (length kept) (rw same-length (w .room)) (rw same-length (compacted-up-to image kept m (w .room) (w .whole)))
 
-    numbers-below : All (λ x. x < capacity (length image)) (map number kept)
-    numbers-below =
-        all-map number (λ x. x < capacity (length image)) kept
-        (all-mono (λ b. legalNumber (length image) (number b) ≡ true) (λ b. number b < capacity (length image))
-        (λ b e. omega (arith, legal-le (length image) (number b) e, m .top-number)) kept (w .legal))
-
     used-live : Distinct (map number kept) → used (compacted image kept) ≡ live (compacted image kept)
     used-live d =
         compacted-used
-        ∙ sym (live-count (compacted image kept) kept (λ n. ap isSome (compacted-contents image s kept w n) ∙ some-numbered n kept) d (rw same-length numbers-below))
+        ∙ sym (live-count (compacted image kept) kept (λ n. ap isSome (compacted-contents image s kept w n) ∙ some-numbered n kept) d (rw same-length (legal-below image m kept (w .legal))))
 
   pub erased-used : used (erased image) ≡ live (erased image)
   unfolding erased
