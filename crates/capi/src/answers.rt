@@ -11,7 +11,7 @@ use slots::GivenSlot;
 use verdicts::{Place, Verdict};
 
 #[repr(C)]
-#[derive(Drop)]
+#[derive(Clone, Copy)]
 pub struct ReportAnswer {
     pub code: u64,
     pub version: u64,
@@ -21,21 +21,21 @@ pub struct ReportAnswer {
 }
 
 #[repr(C)]
-#[derive(Drop)]
+#[derive(Clone, Copy)]
 pub struct NextLiveAnswer {
     pub code: u64,
     pub number: u64,
 }
 
 #[repr(C)]
-#[derive(Drop)]
+#[derive(Clone, Copy)]
 pub struct SlotAnswer {
     pub code: u64,
     pub slot: u64,
 }
 
 #[repr(C)]
-#[derive(Drop)]
+#[derive(Clone, Copy)]
 pub struct CardCheckAnswer {
     pub code: u64,
     pub place_kind: u64,
@@ -45,7 +45,7 @@ pub struct CardCheckAnswer {
 
 // `kind` is C's `type`.
 #[repr(C)]
-#[derive(Drop)]
+#[derive(Clone, Copy)]
 pub struct CardEntryAnswer {
     pub code: u64,
     pub place_kind: u64,
@@ -62,7 +62,7 @@ pub struct CardEntryAnswer {
 }
 
 #[repr(C)]
-#[derive(Drop)]
+#[derive(Clone, Copy)]
 pub struct CardVerdictAnswer {
     pub code: u64,
     pub place_kind: u64,

@@ -1,3 +1,5 @@
+#![tactic(auto)]
+
 // The public calls for programs in C and Rust. include/galtuyeg.h declares them, with the structs under C's names.
 //
 // Nothing is asked of what a caller lends but that each pointer is good for its length and that a buffer which a call writes

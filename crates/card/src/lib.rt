@@ -1,3 +1,5 @@
+#![tactic(auto)]
+
 // Memory cards of 128 KiB: check, list, read, write and delete, on a card lent by the caller.
 //
 // Every call begins by opening the card (`card_check::open`) and answers a verdict: number 0 when it is done, else the refusal's number
@@ -71,9 +73,9 @@ fn listing_of(i: usize, found: &[u8]) -> Listing
     ensures { result ≡ listed_entry i found.now }
 {
     let mut name = [0u8; 12];
-    bytes::copy(&found[4..16], &mut name);
+    name.copy_from_slice(&found[4..16]);
     let mut time = [0u8; 8];
-    bytes::copy(&found[16..24], &mut time);
+    time.copy_from_slice(&found[16..24]);
     Listing {
         verdict: done(),
         entry: i,
@@ -116,7 +118,7 @@ fn read_block(card: &[u8], i: usize, index: usize, block: &mut [u8]) -> Verdict
     }
     let at = block_after(card, entry::first_block(found), index) * 512;
     let end = at + 512;
-    bytes::copy(&card[at..end], block);
+    block.copy_from_slice(&card[at..end]);
     done()
 }
 
@@ -144,7 +146,7 @@ pub fn read(card: &[u8], name: &[u8], index: usize, block: &mut [u8]) -> Verdict
 }
 
 // What is given of a data file in numbers. Any flag is taken; an offset that isn't below the size is refused.
-#[derive(Drop)]
+#[derive(Clone, Copy)]
 pub struct DataNumbers {
     pub flag: u8,
     pub offset: usize,

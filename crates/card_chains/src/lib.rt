@@ -1,3 +1,5 @@
+#![tactic(auto)]
+
 // The chains of a card's files: refusals 27 and 28, and the orphans. No block is walked twice: it is tested and marked in the
 // same step, and a walk that meets a mark knows the rest.
 mod links;

@@ -11,7 +11,7 @@ use card_model::Link;
 use card_table::{classify, read_table};
 
 // What the walk along a chain found: no block that was marked before, one that was, or a bad chain.
-#[derive(Drop)]
+#[derive(Clone, Copy)]
 pub(crate) enum Finding {
     Apart,
     Shared,

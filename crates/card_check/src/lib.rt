@@ -1,3 +1,5 @@
+#![tactic(auto)]
+
 // Opening a card: every call begins with it, and the rows 20 to 30 are put together here and nowhere else.
 ghost use Rattle.std.specs.Prelude.{◌≡◌, true, length};
 ghost use Rattle.verdicts.specs.Rows.{accepted};
@@ -14,7 +16,7 @@ use card_table::{LENGTH, table_verdict};
 use verdicts::{Place, Verdict, refused_at};
 
 // The check's verdict and, where it accepts the card, how many entries are used.
-#[derive(Drop)]
+#[derive(Clone, Copy)]
 pub struct Opened {
     pub verdict: Verdict,
     pub count: usize,

@@ -9,7 +9,7 @@ use crate::entry::{entry_at, has_name};
 use crate::used::listed_at;
 
 // An entry's number, or none.
-#[derive(Drop)]
+#[derive(Clone, Copy)]
 pub enum FoundEntry {
     Hit(usize),
     Nothing,

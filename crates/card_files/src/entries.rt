@@ -13,7 +13,7 @@ use card_directory::used::listed_at;
 use words::{copy_all, fill, put_word};
 
 // The fields of an entry that are numbers.
-#[derive(Drop)]
+#[derive(Clone, Copy)]
 pub struct EntryNumbers {
     pub kind: u8,
     pub flag: u8,

@@ -1,3 +1,5 @@
+#![tactic(auto)]
+
 // The game rule: refusal 30, over the list of the used entries.
 ghost use Rattle.std.specs.Prelude.{◌≡◌, true, false, ◌≤◌, ◌<◌, length};
 ghost use Rattle.words.specs.Lists.{any_of, is_some, numbers_from};

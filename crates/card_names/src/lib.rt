@@ -1,3 +1,5 @@
+#![tactic(auto)]
+
 // Refusal 29, by hash: each slot leads to the last listed entry whose name falls into it, and each entry to the one before it in its
 // slot. Numbers in the slots are one more than those of the list, and 0 is none.
 ghost use Rattle.std.specs.Prelude.{◌≡◌, ℕ, suc, ◌+◌, ◌≤◌, ◌<◌, length};

@@ -1,3 +1,5 @@
+#![tactic(auto)]
+
 // The root block and the table of a card: refusals 21 to 25, the table's entries and their classes.
 ghost use Rattle.std.specs.Prelude.{◌≡◌, true, ◌+◌, ◌-◌, ◌≤◌, ◌<◌, length};
 ghost use Rattle.std.proofs.Math.Option.{some};
@@ -21,7 +23,7 @@ const ROOT: usize = 130560;
 const TABLE: usize = 130048;
 
 // The blocks that a row of the table of numbers is about: 241 to 255, 200 to 240, 0 to 199.
-#[derive(Drop)]
+#[derive(Clone, Copy)]
 pub(crate) enum Region {
     System,
     Hidden,

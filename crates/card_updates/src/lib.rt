@@ -1,1 +1,3 @@
+#![tactic(auto)]
+
 // What a write and a delete leave on a memory card: definitions and theorems in specs/, their proofs in proofs/.

@@ -10,7 +10,7 @@ use crate::folding::{fold64, remainder};
 use words::loads::{little6_of8, little8};
 
 // A polynomial of 256 digits, the highest in a.
-#[derive(Drop)]
+#[derive(Clone, Copy)]
 pub struct Four {
     pub a: u64,
     pub b: u64,
@@ -19,7 +19,7 @@ pub struct Four {
 }
 
 // A polynomial of 128 digits, the higher ones in a.
-#[derive(Drop)]
+#[derive(Clone, Copy)]
 struct Two {
     a: u64,
     b: u64,

@@ -1,3 +1,5 @@
+#![tactic(auto)]
+
 // The checksum of a flash block, over a run of bytes that begins anywhere in an image. The bytes are one long polynomial
 // over two elements, and its remainder is taken a word of eight bytes at a time; 33999 is what 16 shifts make FFFF.
 mod block;

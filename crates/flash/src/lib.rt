@@ -1,3 +1,5 @@
+#![tactic(auto)]
+
 // System flash partitions: check, report, next live block, read, save and erase, on an image lent by the caller.
 //
 // Every call answers a number, or values in its place: 0 when it is done, else the refusal's of document 01's table, and then nothing
@@ -12,7 +14,7 @@ ghost use Rattle.flash.specs.Answers.{report_answer, next_answer};
 use flash_partition::opening::{Opened, open};
 
 // What a report counts.
-#[derive(Drop)]
+#[derive(Clone, Copy)]
 pub struct Counts {
     pub version: u8,
     pub capacity: usize,
@@ -20,13 +22,13 @@ pub struct Counts {
     pub live: usize,
 }
 
-#[derive(Drop)]
+#[derive(Clone, Copy)]
 pub enum Summary {
     Refused(u8),
     Counted(Counts),
 }
 
-#[derive(Drop)]
+#[derive(Clone, Copy)]
 pub enum LiveNumber {
     Refused(u8),
     Hit(usize),

@@ -1,3 +1,5 @@
+#![tactic(auto)]
+
 // The bitmap of an image: which user blocks are allocated.
 mod runs;
 
@@ -16,7 +18,7 @@ use runs::run_end;
 use words::fill;
 
 // A physical block, or none.
-#[derive(Drop)]
+#[derive(Clone, Copy)]
 pub enum Found {
     Hit(usize),
     Nothing,

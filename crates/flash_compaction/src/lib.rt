@@ -1,3 +1,5 @@
+#![tactic(auto)]
+
 // The compaction, in place: document 01's long way.
 ghost use Rattle.std.specs.Prelude.{◌≡◌, [], ◌∷◌, ◌++◌, ◌≤◌, length};
 ghost use Rattle.flash_model.specs.Measures.{capacity, top_number};

@@ -1,3 +1,5 @@
+#![tactic(auto)]
+
 // The journal that a partition is: one block written behind the used ones, and its bitmap bit cleared.
 ghost use Rattle.std.specs.Prelude.{◌≡◌, false, ◌≤◌, ◌<◌, length};
 ghost use Rattle.flash_model.specs.Measures.{capacity};

@@ -1,3 +1,5 @@
+#![tactic(auto)]
+
 // One pass over the used blocks for whatever looks at all numbers.
 pub mod places;
 
@@ -15,7 +17,7 @@ use flash_partition::opening::OpenedLog;
 use words::word;
 
 // A live number, or none.
-#[derive(Drop)]
+#[derive(Clone, Copy)]
 pub enum LowestNumber {
     Hit(usize),
     Nothing,
@@ -47,7 +49,7 @@ fn mark_number(part: &[u8], marks: &mut [u8]) -> usize
 }
 
 // Where a pass stands: the blocks up to `at` are still to come, and `count` numbers were marked.
-#[derive(Drop)]
+#[derive(Clone, Copy)]
 struct Progress {
     at: usize,
     count: usize,

@@ -1,3 +1,5 @@
+#![tactic(auto)]
+
 // The measures of a partition: one value with its own operations.
 ghost use Rattle.std.specs.Prelude.{◌≡◌, true, ◌*◌, ◌≤◌};
 ghost use Rattle.flash_model.specs.Measures as model;
@@ -20,7 +22,7 @@ pub fn legal_size(len: usize) -> bool
     len == 65536
 }
 
-#[derive(Drop)]
+#[derive(Clone, Copy)]
 pub struct Measures {
     pub size: usize,
 }

@@ -1,3 +1,5 @@
+#![tactic(auto)]
+
 // Blocks of a rising list, moved down to 1, 2, 3 and on; then FF, and the bits of what stands there.
 ghost use Rattle.std.specs.Prelude.{◌≡◌, ◌++◌, ◌+◌, ◌-◌, ◌*◌, ◌≤◌, length, take, replicate};
 ghost use Rattle.flash_model.specs.Measures.{capacity};

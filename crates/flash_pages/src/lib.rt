@@ -1,3 +1,5 @@
+#![tactic(auto)]
+
 // Reads and saves of one page, on a partition that refusals 1 to 5 don't apply to.
 ghost use Rattle.std.specs.Prelude.{◌≡◌, true, cond, ◌≤◌, eqb, length};
 ghost use Rattle.flash_model.specs.Measures.{legal_number, top_number};

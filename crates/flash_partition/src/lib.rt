@@ -1,3 +1,5 @@
+#![tactic(auto)]
+
 // Reading a partition: its refusals, and where contents are.
 pub mod blocks;
 pub mod opening;

@@ -7,13 +7,13 @@ use flash_measures::Measures;
 use words::same;
 
 // What the opening of a sound partition found: its measures, and how many user blocks are allocated.
-#[derive(Drop)]
+#[derive(Clone, Copy)]
 pub struct OpenedLog {
     pub m: Measures,
     pub used: usize,
 }
 
-#[derive(Drop)]
+#[derive(Clone, Copy)]
 pub enum Opened {
     Refused(u8),
     Ready(OpenedLog),

@@ -1,3 +1,5 @@
+#![tactic(auto)]
+
 // Demand 3 on the running calls, for one list of them: a writer saves, others make five calls, and the writer reads its own page back.
 // Any other list is the theorem's (`Demand3.runs-as-store`).
 ghost use Rattle.std.specs.Prelude.{[], ◌∷◌, ◌≢◌};

@@ -1,17 +1,19 @@
+#![tactic(auto)]
+
 // Reads a partition image from standard input and prints its report. The text is made by the library `report_text`.
 ghost use Rattle.report.specs.Inputs.{Held, HeldImage};
 
 use libc::{STDERR_FILENO, STDIN_FILENO, STDOUT_FILENO};
 
 // What one read gave: n bytes, 0 at the input's end, or an error.
-#[derive(Drop)]
+#[derive(Clone, Copy)]
 enum Got {
     Bytes(usize),
     Failed,
 }
 
 // What the whole input is: an image of n bytes, more than the buffer holds, or cut off by an error.
-#[derive(Drop)]
+#[derive(Clone, Copy)]
 enum Input {
     Image(usize),
     TooLong,

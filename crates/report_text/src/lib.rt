@@ -1,3 +1,5 @@
+#![tactic(auto)]
+
 // The text of a partition report, made in a buffer that the caller lends.
 mod writing;
 

@@ -1,1 +1,3 @@
+#![tactic(auto)]
+
 // The samples from the bench: a table in specs/Samples.antt and one theorem over it. No code.

@@ -1,3 +1,5 @@
+#![tactic(auto)]
+
 // Game slots of partition 3: find, list, claim, and reads and saves of a slot's two data blocks, on an image lent by the caller.
 //
 // Every call answers a number, or a slot in its place: 0 when it is done, else the refusal's of document 01's table or of document
@@ -17,14 +19,14 @@ use crate::opening::open_slots;
 use flash_partition::opening::Opened;
 
 // A slot, or the number of the refusal.
-#[derive(Drop)]
+#[derive(Clone, Copy)]
 pub enum GivenSlot {
     Refused(u8),
     Hit(usize),
 }
 
 // A slot's data block, 0 or 1.
-#[derive(Drop)]
+#[derive(Clone, Copy)]
 pub struct DataBlock {
     pub slot: usize,
     pub block: usize,

@@ -22,7 +22,7 @@ const SLOTS: usize = 100;
 const SLOT_PARTITION_NUMBERS: usize = 510;
 
 // What a search for a product number finds: a slot that has it, else the lowest one that is not valid, else neither.
-#[derive(Drop)]
+#[derive(Clone, Copy)]
 pub(crate) enum Searched {
     Has(usize),
     Free(usize),

@@ -1,3 +1,5 @@
+#![tactic(auto)]
+
 // The checksum under a name that a program in C or Rust can call: only for the benchmark; it is no part of the interface.
 ghost use Rattle.std.specs.Prelude.{◌≡◌};
 ghost use Rattle.checksum.specs.Crc.{checksum_of};

@@ -1,3 +1,5 @@
+#![tactic(auto)]
+
 // Prints the checksums of a fixed set of runs, a line each: the family, the length or the block, the checksum in hex.
 // tests/vectors/checksum.py makes the same lines from Python's own CRC; they are the file stdout beside src/.
 use libc::STDOUT_FILENO;

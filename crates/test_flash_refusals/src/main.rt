@@ -1,3 +1,5 @@
+#![tactic(auto)]
+
 // Runs the calls on flash partitions and prints each refusal of an image, of a number and of a read, beside the nearest thing that
 // is not refused. tests/vectors/flash_runs.py prints the same lines from a model of its own; they are the file stdout beside src/.
 mod images;

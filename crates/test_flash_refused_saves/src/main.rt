@@ -1,3 +1,5 @@
+#![tactic(auto)]
+
 // Runs the calls on flash partitions and prints each refusal of a listing, a save and an erase, beside the nearest that is not
 // refused. tests/vectors/flash_runs.py prints the same lines from a model of its own; they are the file stdout beside src/.
 mod refusals;

@@ -1,3 +1,5 @@
+#![tactic(auto)]
+
 // Runs the calls on flash partitions and prints what they answer: two writers, both ways of a save, by append and by
 // compaction, and idle saves. tests/vectors/flash_runs.py prints the same lines from a model of its own; they are the file
 // stdout beside src/.

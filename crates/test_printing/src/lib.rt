@@ -1,3 +1,5 @@
+#![tactic(auto)]
+
 // Lines that the programs on flash partitions print, and what they tell of an image.
 use flash::{LiveNumber, Summary};
 use libc::STDOUT_FILENO;

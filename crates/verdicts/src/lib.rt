@@ -1,10 +1,12 @@
+#![tactic(auto)]
+
 // The answer of a call that tells where it refused: document 01, "A card refusal also names its place".
 
 ghost use Rattle.std.specs.Prelude.{◌≡◌};
 ghost use Rattle.verdicts.specs.Rows as rows;
 
 // The whole card, a block, or a directory entry.
-#[derive(Drop)]
+#[derive(Clone, Copy)]
 pub enum Place {
     Whole,
     Block(usize),
@@ -12,7 +14,7 @@ pub enum Place {
 }
 
 // A number of document 01's table and its place; 0 and the whole card where the call is done.
-#[derive(Drop)]
+#[derive(Clone, Copy)]
 pub struct Verdict {
     pub number: u8,
     pub place: Place,

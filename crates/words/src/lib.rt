@@ -1,3 +1,5 @@
+#![tactic(auto)]
+
 // Runs of bytes and two-byte numbers. The definitions and laws in specs/ and proofs/ serve every format.
 pub mod loads;
 
@@ -70,7 +72,7 @@ pub fn copy_all(run: &[u8], to: &mut [u8])
     requires { length to.old ≡ length run.now }
     ensures { to.new ≡ run.now }
 {
-    bytes::copy(run, to);
+    to.copy_from_slice(run);
 }
 
 // Copies the 60 bytes of a page, by way of an array that overlaps neither place.
@@ -79,6 +81,6 @@ pub fn copy_page(page: &[u8], to: &mut [u8])
     ensures { to.new ≡ page.now }
 {
     let mut copied = [0u8; 60];
-    bytes::copy(page, &mut copied);
-    bytes::copy(&copied, to);
+    copied.copy_from_slice(page);
+    to.copy_from_slice(&copied);
 }
