@@ -1,6 +1,6 @@
 -- Parts of an image: its blocks, and an image whose bitmap is another. Assumes nothing.
 use Prim.Native.Nat.{ℕ, suc, ◌+◌, ◌*◌, ◌≤◌, ◌<◌}
-use mathlib.Core.Path.{◌≡◌, refl, sym, ap, ◌∙◌}
+use mathlib.Core.Path.{◌≡◌, refl, sym, ap, ap₂, ◌∙◌}
 use mathlib.Core.List.{List, [], ◌∷◌, ◌++◌, map, append_assoc}
 use native.Mathlib.Omega.{arith}
 use lib.ListN.{length, get_or, take, drop, length-append, length-take, length-drop}
@@ -46,7 +46,8 @@ blocks-of a before (b ∷ bs) rest f l =
     let e : before ++ (b ++ concat bs) ++ rest ≡ before ++ b ++ concat bs ++ rest = simp append_assoc in
     let g : before ++ b ++ concat bs ++ rest ≡ before ++ b ++ (concat bs ++ rest) = append_assoc (before ++ b) (concat bs) rest in
     let h : block_at (before ++ b ++ concat bs ++ rest) a ≡ b = rw g (block-at a before b (concat bs ++ rest) f l.0) in
-    rw (e, h, blocks-of (suc a) (before ++ b) bs rest (length-append before b ∙ omega (arith, l.0)) l.1)
+    let r : map (block_at (before ++ b ++ concat bs ++ rest)) (numbers_from (suc a) (length bs)) ≡ bs = blocks-of (suc a) (before ++ b) bs rest (length-append before b ∙ omega (arith, l.0)) l.1 in
+    ap (λ (image : List ℕ). map (block_at image) (numbers_from a (suc (length bs)))) e ∙ ap₂ (λ (x : List ℕ) (xs : List (List ℕ)). x ∷ xs) h r
 
 -- ---- another bitmap behind the same front
 

@@ -98,7 +98,7 @@ module _ (product one other : List ℕ) (h : HeaderFor product one other) where
           first-missing e = cc
 
           none_valid : (k : ℕ) → IsSlot image k → ⊥
-          none_valid k v = let z = first-missing (sym (empty (24 + 4 * k)) ∙ v.1.1.First-Block) in absurd (omega (arith, z))
+          none_valid k v = let z = first-missing (sym (empty (24 + 4 * k)) ∙ v.1.1.first_block_lem) in absurd (omega (arith, z))
 
   -- the first blocks are zeros, the second ones the header's
   half_idle : (image : List ℕ) × SecondThere image one other

@@ -4,7 +4,8 @@
 -- it shares none of the tests that the calls on an image are defined by.
 -- Assumes nothing.
 use Rattle.std.specs.Prelude.{ℕ, zero, suc, ◌≡◌, Bool, cond, length, get_or, take, drop}
-use Rattle.std.proofs.Math.Logic.{ite, Dec·not, Dec·and}
+use Rattle.std.proofs.Math.Logic.{ite}
+use Rattle.std.proofs.Math.Logic.Dec
 use mathlib.Core.HLevel.{Discrete}
 use mathlib.Core.List.{List, [], ◌∷◌, ◌++◌, List-discrete}
 use Rattle.std.proofs.Math.Option.{Option, none, some}
@@ -50,8 +51,8 @@ RightBytes header = (get_or header 0 0 ≡ 0x01) × ((get_or header 1 0 ≡ 0xFF
 
 abbrev pub dec_right : (header : List ℕ) → Dec (RightBytes header)
 dec_right header =
-    Dec·and (ℕ_discrete (get_or header 0 0) 0x01)
-    (Dec·and (ℕ_discrete (get_or header 1 0) 0xFF) (ℕ_discrete (word header 0x70) (checksum_of (take 0x6E (drop 0x02 header)))))
+    Dec.and (ℕ_discrete (get_or header 0 0) 0x01)
+    (Dec.and (ℕ_discrete (get_or header 1 0) 0xFF) (ℕ_discrete (word header 0x70) (checksum_of (take 0x6E (drop 0x02 header)))))
 
 abbrev pub kept_header : PageMap → ℕ → List ℕ
 kept_header pages slot = both_pages (pages (slot_number slot 0)) (pages (slot_number slot 1))
@@ -59,15 +60,15 @@ kept_header pages slot = both_pages (pages (slot_number slot 0)) (pages (slot_nu
 -- A slot call: another length, 1; a number named that isn't 3 or isn't the header's, 3.
 abbrev pub slot_front_given : ℕ → ℕ → ℕ → ℕ → ℕ
 slot_front_given size header partition later =
-    given (Dec·not (ℕ_discrete size 32768)) 1
-    (given (Dec·not (ℕ_discrete partition 3)) 3
-    (given (Dec·not (ℕ_discrete partition header)) 3 later))
+    given (Dec.not (ℕ_discrete size 32768)) 1
+    (given (Dec.not (ℕ_discrete partition 3)) 3
+    (given (Dec.not (ℕ_discrete partition header)) 3 later))
 
 -- A slot above 99 or not valid, 42; a data block other than 0 or 1, 43.
 abbrev pub slot_given : PageMap → ℕ → ℕ → ℕ → ℕ
 slot_given pages slot block later =
     given (dec_lt 99 slot) 42
-    (given (Dec·not (dec_right (kept_header pages slot))) 42
+    (given (Dec.not (dec_right (kept_header pages slot))) 42
     (given (dec_lt 1 block) 43 later))
 
 -- "Any call: another partition number named, 3; else logical number above M-2, 6."
@@ -75,27 +76,27 @@ slot_given pages slot block later =
 -- "A save past these: new page not 60 bytes, or last-seen neither 0 nor 60, 8; last-seen .. not what is kept, 9; else 0"
 unfoldable pub store_code : ℕ → ℕ → PageMap → PageCall → ℕ
 store_code size header pages (read partition n buffer) =
-    given (Dec·not (ℕ_discrete partition header)) 3
+    given (Dec.not (ℕ_discrete partition header)) 3
     (given (dec_lt (top_number size) n) 6
-    (given (Dec·not (ℕ_discrete (length buffer) 60)) 8
+    (given (Dec.not (ℕ_discrete (length buffer) 60)) 8
     (given (same_page (pages n) none) 7 0)))
 store_code size header pages (save partition n expected page) =
-    given (Dec·not (ℕ_discrete partition header)) 3
+    given (Dec.not (ℕ_discrete partition header)) 3
     (given (dec_lt (top_number size) n) 6
-    (given (Dec·not (ℕ_discrete (length page) 60)) 8
-    (given (Dec·and (Dec·not (ℕ_discrete (length expected) 0)) (Dec·not (ℕ_discrete (length expected) 60))) 8
-    (given (Dec·not (same_page (expected_page expected) (pages n))) 9 0))))
+    (given (Dec.not (ℕ_discrete (length page) 60)) 8
+    (given (Dec.and (Dec.not (ℕ_discrete (length expected) 0)) (Dec.not (ℕ_discrete (length expected) 60))) 8
+    (given (Dec.not (same_page (expected_page expected) (pages n))) 9 0))))
 store_code size header pages (slot_read partition slot block buffer) =
     slot_front_given size header partition
-    (given (Dec·not (ℕ_discrete (length buffer) 60)) 8
+    (given (Dec.not (ℕ_discrete (length buffer) 60)) 8
     (slot_given pages slot block
     (given (same_page (pages (data_number slot block)) none) 7 0)))
 store_code size header pages (slot_save partition slot block expected page) =
     slot_front_given size header partition
-    (given (Dec·not (ℕ_discrete (length page) 60)) 8
-    (given (Dec·and (Dec·not (ℕ_discrete (length expected) 0)) (Dec·not (ℕ_discrete (length expected) 60))) 8
+    (given (Dec.not (ℕ_discrete (length page) 60)) 8
+    (given (Dec.and (Dec.not (ℕ_discrete (length expected) 0)) (Dec.not (ℕ_discrete (length expected) 60))) 8
     (slot_given pages slot block
-    (given (Dec·not (same_page (expected_page expected) (pages (data_number slot block)))) 9 0))))
+    (given (Dec.not (same_page (expected_page expected) (pages (data_number slot block)))) 9 0))))
 
 -- ".. else 0, and the buffer gets the page kept."
 abbrev pub read_buffer : ℕ → Option (List ℕ) → List ℕ → List ℕ
