@@ -1,14 +1,11 @@
--- `checksum::block::swap_bytes` meets its contract: the bytes are put in their place one by one.
--- Assumes nothing.
-use Prim.Native.Nat.{◌/◌}
-use mathlib.Core.Path.{refl, sym}
+-- The bytes are put in their place one by one.
+use Rattle.std.proofs.Common.{◌/◌, refl, sym}
 use lib.Dec.{lit≤}
 use lib.Pow.{shr-shr}
 use Rattle.checksum.proofs.LittleLaws.{swap-start, swap-next, swap-end}
-use Rattle.checksum.proofs.block.swap_bytes.Statement.{statement}
-use Rattle.checksum.proofs.block.swap_bytes.Tie as tie
+use Rattle.checksum.proofs.block.swap_bytes.Goals as goal
 
-returns : tie.Need-returns
+pub returns : goal.returns
 returns c =
     let x = c.args.x in
     let one = swap-next 7 x (x / 256) 0 (lit≤ tt) refl (swap-start x) in
@@ -19,6 +16,3 @@ returns c =
     let six = swap-next 2 _ _ _ (lit≤ tt) (shr-shr x 40 8) five in
     let seven = swap-next 1 _ _ _ (lit≤ tt) (shr-shr x 48 8) six in
     sym (swap-end _ _ seven)
-
-pub swap-bytes-spec : {M : Type 1} → statement M
-swap-bytes-spec = tie.close (tie.spec returns)

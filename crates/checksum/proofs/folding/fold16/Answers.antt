@@ -1,22 +1,14 @@
--- `checksum::folding::fold16` meets its contract.
--- Assumes nothing.
-use mathlib.Core.Path.{refl, sym, ap, ◌∙◌}
-use Prim.Native.Nat.{◌<◌}
-use borrow.Author.Rules.{rules}
+use Rattle.std.proofs.Common.{◌<◌, refl, sym, ap, ◌∙◌, rules}
 use lib.Dec.{lit≤}
 use Rattle.checksum.specs.Crc.{shifts}
 use Rattle.checksum.proofs.RemainderLaws.{rem-small}
 use Rattle.checksum.proofs.FoldLaws.{fold, fold-lt}
 use Rattle.checksum.proofs.RuleLaws.{rule-16}
-use Rattle.checksum.proofs.folding.fold16.Statement.{statement}
-use Rattle.checksum.proofs.folding.fold16.Tie as tie
+use Rattle.checksum.proofs.folding.fold16.Goals as goal
 
-returns : tie.Need-returns
+pub returns : goal.returns
 returns c =
     let a = c.args.a in
     let h : a < 65536 = search rules in
     sym (rem-small 16 _ (lit≤ tt) (fold-lt 16 4 11 12 5 a h))
     ∙ fold 16 4 11 12 5 refl refl refl (lit≤ tt) rule-16 a h ∙ ap (shifts 16) (rem-small 16 a (lit≤ tt) h)
-
-pub fold16-spec : {M : Type 1} → statement M
-fold16-spec = tie.close (tie.spec returns)
