@@ -1,0 +1,15 @@
+-- `flash_listing::count_run` meets its contract. The loop's invariant: the pass is at k, and the count and what is left to keep make the
+use Prim.Native.Nat.{◌+◌, ◌≤◌}
+use mathlib.Core.Path.{◌≡◌}
+use lib.ListN.{length}
+use Rattle.flash_listing.specs.BlockTests.{kept_blocks}
+use Rattle.flash_listing.specs.Passing.{PassAt}
+use Rattle.flash_listing.proofs.count_run.Given as goal
+
+abbrev pub invariant-loop-k : goal.invariant-loop-k
+invariant-loop-k l =
+    (l.count + l.k ≤ l.from) × (length l.marks ≡ length l.initial.marks) × PassAt l.marks l.image l.m.size l.end l.k
+    × (l.count + length (kept_blocks l.marks l.image l.k) ≡ length (kept_blocks l.initial.marks l.image l.from))
+
+abbrev pub decreases-loop-k : goal.decreases-loop-k
+decreases-loop-k l = l.k
