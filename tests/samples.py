@@ -39,7 +39,7 @@ def values(text):
         if name == "replicate":
             count, value = map(int, arguments)
             flat += [value] * count
-        elif name == "numbersFrom":
+        elif name == "numbers_from":
             start, count = map(int, arguments)
             flat += range(start, start + count)
         elif name != "[]":
@@ -48,12 +48,12 @@ def values(text):
 
 
 def table_rows():
-    """The expected values of each row, in the order in which allCardSamples puts the lists of rows together."""
+    """The expected values of each row, in the order in which all_card_samples puts the lists of rows together."""
     text = re.sub(r"--[^\n]*", "", TABLE.read_text(encoding="utf-8"))
-    lists = dict(re.findall(r"^(\w+Samples) =(.*?)(?=^unfoldable|\Z)", text, re.M | re.S))
-    (order,) = groups(lists.pop("allCardSamples").split("concat")[1])
-    for name in re.findall(r"\w+Samples", order):
-        for row in lists.pop(name).split("sampleOf")[1:]:
+    lists = dict(re.findall(r"^(\w+_samples) =(.*?)(?=^unfoldable|\Z)", text, re.M | re.S))
+    (order,) = groups(lists.pop("all_card_samples").split("concat")[1])
+    for name in re.findall(r"\w+_samples", order):
+        for row in lists.pop(name).split("sample_of")[1:]:
             _, expected = groups(row)
             yield values(expected)
     assert not lists, f"rows that are in no table: {', '.join(lists)}"
@@ -70,8 +70,8 @@ def model_rows():
 def example_header():
     """The header in the examples of slots, with its product number put in."""
     text = re.sub(r"--[^\n]*", "", EXAMPLES.read_text(encoding="utf-8"))
-    product, header = (re.search(rf"^{name} =(.*?)^\s*$", text, re.M | re.S)[1] for name in ("productNumber", "gameHeader"))
-    return bytes(values(header.replace("productNumber", product).replace("(", " ").replace(")", " ")))
+    product, header = (re.search(rf"^{name} =(.*?)^\s*$", text, re.M | re.S)[1] for name in ("product_number", "game_header"))
+    return bytes(values(header.replace("product_number", product).replace("(", " ").replace(")", " ")))
 
 
 def main():
