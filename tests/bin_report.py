@@ -1,8 +1,8 @@
 #!/usr/bin/env python3
 """bin_report.py: runs bin/report as a new user would, and compares its exit status, standard output and standard error.
 
-It runs in copies of this repository with the program of target/bin, which has to be built. Where bin/report builds it, a small
-script stands for rt, so that nothing is proved here. Ends with a line that counts the runs compared, or with the first
+It runs in copies of this repository with the program of crates/report/out, which has to be built. Where bin/report builds it, a
+small script stands for rt, so that nothing is proved here. Ends with a line that counts the runs compared, or with the first
 difference and status 1."""
 import os
 import pathlib
@@ -20,7 +20,8 @@ sys.path.insert(0, str(HERE))
 import report as images  # noqa: E402
 
 ROOT = HERE.parent
-BUILT = ROOT / "target/bin/report"
+PROGRAM = "crates/report/out/report"
+BUILT = ROOT / PROGRAM
 SAMPLE = images.SAMPLE
 IMAGE = "samples/partition3.bin"
 NOBODY = {"user": 65534, "group": 65534, "extra_groups": []}
@@ -35,28 +36,34 @@ NOT_BUILT = "the report program is not built yet"
 NEWER = "a source is newer than the report program"
 NOT_ENDED = "the last build of the report program failed or was cut off"
 NO_RT = ", and a build needs rt, the Rattle toolchain, which is not in PATH"
-CHECKED = "rt: check report in "
+RUN = "rt: run in "
+RUNNING = "rt: running out/report"
 
 # All that bin/report and the script for rt may call. No rt is among them, so that the machine's own is out of reach.
 TOOLS = "bash cat cp dirname find git mkdir readlink rm sleep touch".split()
 
-# Stands for rt and does as STUB says. It reads whatever its standard input has, and puts the program in place before it ends,
-# as rt may do.
+# Stands for rt and does as STUB says. It keeps something in out/, puts the program in place and runs it, as rt does.
 RT = """#!/bin/sh
 [ "$1" != version ] || { echo "stub-kit 1"; exit; }
-cat >/dev/null
+mkdir -p out
 case $STUB in
 refuses | idles) ;;
-*) mkdir -p target/bin && cp "$BUILT" target/bin/report ;;
+*) cp "$BUILT" out/report ;;
 esac
-echo "rt: $* in $PWD"
+echo "rt: $* in $PWD" >&2
 case $STUB in
 waits) read -r _ <"$GO" ;;
-refuses) echo "rt: flash NOT PROVED" && exit 1 ;;
+refuses) echo "rt: flash NOT PROVED" >&2 && exit 1 ;;
 fails_late) echo "rt: report proved, and its run FAILED" >&2 && exit 1 ;;
-is_overtaken) sleep 0.1 && touch crates/flash/src/lib.rt && sleep 0.1 ;;
+is_overtaken) sleep 0.1 && touch ../flash/src/lib.rt && sleep 0.1 ;;
 esac
-echo "rt: ok"
+touch out/report.stamp
+echo "rt: running out/report" >&2
+case $STUB in
+idles) cat >/dev/null && cat stdout ;;
+differs) echo "partition 3" ;;
+*) out/report ;;
+esac
 """
 
 compared = 0
@@ -90,12 +97,12 @@ class Place:
         which bin/report itself only asks how old they are."""
         clone = self.folder(name)
         for part in ("bin", "crates/flash", "crates/report", "samples"):
-            shutil.copytree(ROOT / part, clone / part)
+            shutil.copytree(ROOT / part, clone / part, ignore=shutil.ignore_patterns("out"))
         shutil.copy2(ROOT / "crates.txt", clone)
         subprocess.run(["chmod", "-R", "a+rX", clone], check=True)
         if built:
-            self.folder(f"{name}/target/bin")
-            shutil.copy(self.top / "built", clone / "target/bin/report")
+            (clone / PROGRAM).parent.mkdir()
+            shutil.copy(self.top / "built", clone / PROGRAM)
         return clone
 
     def environment(self, rt):
@@ -279,7 +286,7 @@ def compare_half_answers(place):
     """A program that does not answer as it should: nothing of it is shown as an answer."""
     clone = place.clone("half", built=True)
     for name, lines in (("half a report", "echo partition 3"), ("an unknown refusal", "echo refused 6"), ("a crash", "kill -9 $$")):
-        (clone / "target/bin/report").write_text(f"#!/bin/sh\n{lines}\n")
+        (clone / PROGRAM).write_text(f"#!/bin/sh\n{lines}\n")
         compare(name, place.use(clone), 2, "", f"no report on {IMAGE}")
 
 
@@ -311,54 +318,64 @@ def compare_first_use(place):
     """A fresh clone, called from elsewhere; the build ends only when its first line has been seen."""
     clone = place.clone("fresh", built=False)
     process = place.start(clone / "bin/report", clone / IMAGE, rt="waits")
-    said = seen(process, b"rt: check").decode()
+    said = seen(process, b"rt: run").decode()
     go = os.open(place.top / "go", os.O_RDWR)
     os.write(go, b"\n")
     status, text, more = ended(process)
     os.close(go)
-    compare("first use", (status, text, said + more), 0, SAMPLE, NOT_BUILT, f"{CHECKED}{clone}", "rt: ok")
+    compare("first use", (status, text, said + more), 0, SAMPLE, NOT_BUILT, f"{RUN}{clone}/crates/report", RUNNING)
     compare("second use", place.use(clone), 0, SAMPLE)
     compare("second use, rt", place.use(clone, "refuses"), 0, SAMPLE)
     piped = place.clone("piped", built=False)
     image = (piped / IMAGE).read_bytes()
     answer = place.run("bin/report", "-", cwd=piped, rt="builds", given=image)
-    compare("first use, -", answer, 0, SAMPLE, NOT_BUILT, CHECKED, "rt: ok")
+    compare("first use, -", answer, 0, SAMPLE, NOT_BUILT, RUN, RUNNING)
 
 
 def compare_failed_builds(place):
     """After each the next use builds again, even though a program is there."""
     clone = place.clone("failed", built=False)
     failed = "bin/report: the build failed; the lines above say why"
-    compare("not proved", place.use(clone, "refuses"), 2, "", NOT_BUILT, CHECKED, "flash NOT PROVED", failed)
-    compare("nothing made", place.use(clone, "idles"), 2, "", NOT_BUILT, CHECKED, "rt: ok", "the build made no ")
-    compare("its run failed", place.use(clone, "fails_late"), 2, "", NOT_BUILT, CHECKED, "its run FAILED", failed)
+    compare("not proved", place.use(clone, "refuses"), 2, "", NOT_BUILT, RUN, "flash NOT PROVED", failed)
+    compare("nothing made", place.use(clone, "idles"), 2, "", NOT_BUILT, RUN, RUNNING, "the build made no ")
+    compare("its run failed", place.use(clone, "fails_late"), 2, "", NOT_BUILT, RUN, "its run FAILED", failed)
     compare("its run failed, then no rt", place.use(clone), 2, "", f"{NOT_ENDED}{NO_RT}")
-    compare("its run failed, then built", place.use(clone, "builds"), 0, SAMPLE, NOT_ENDED, CHECKED, "rt: ok")
+    compare("its run failed, then built", place.use(clone, "builds"), 0, SAMPLE, NOT_ENDED, RUN, RUNNING)
+    os.utime(clone / PROGRAM, (1, 1))
+    another = "bin/report: what was built prints another report than "
+    compare("another report", place.use(clone, "differs"), 2, "", NEWER, RUN, RUNNING, another)
+    compare("another report, then built", place.use(clone, "builds"), 0, SAMPLE, NOT_ENDED, RUN, RUNNING)
     compare("built at last", place.use(clone), 0, SAMPLE)
 
 
 def compare_cut_off_build(place):
     clone = place.clone("cut off", built=False)
     process = place.start("bin/report", IMAGE, cwd=clone, rt="waits")
-    seen(process, b"rt: check")
+    seen(process, b"rt: run")
     os.killpg(process.pid, signal.SIGKILL)
     assert ended(process)[:2] == (-signal.SIGKILL, "")
     compare("cut off, then no rt", place.use(clone), 2, "", f"{NOT_ENDED}{NO_RT}")
 
 
 def compare_newer_sources(place):
-    """Where only a time has changed rt has nothing to do, and leaves the program as old as it is."""
+    """Where only a time has changed rt has nothing to do, and leaves the program as old as it is. What rt keeps is no source."""
     clone = place.clone("newer", built=True)
+    place.folder("newer/crates/flash/out/rlib")
+    for path in clone.rglob("*"):
+        os.utime(path, (1, 1))
+    for kept in ("crates/flash", "crates/flash/out", "crates/flash/out/rlib", "crates/report", "crates/report/out"):
+        os.utime(clone / kept, (2, 2))
+        compare(f"{kept} newer", place.use(clone), 0, SAMPLE)
     for source in ("crates.txt", "crates/flash/src/lib.rt", "crates/flash/src"):
         for path in clone.rglob("*"):
             os.utime(path, (1, 1))
         compare("no newer source", place.use(clone, "builds"), 0, SAMPLE)
         os.utime(clone / source, (2, 2))
         compare(f"{source} newer, no rt", place.use(clone), 2, "", f"{NEWER}{NO_RT}")
-        compare(f"{source} newer", place.use(clone, "idles"), 0, SAMPLE, NEWER, CHECKED, "rt: ok")
+        compare(f"{source} newer", place.use(clone, "idles"), 0, SAMPLE, NEWER, RUN, RUNNING)
         compare(f"{source} newer, built", place.use(clone), 0, SAMPLE)
-    os.utime(clone / "target/bin/report", (0, 0))
-    compare("changed while it is built", place.use(clone, "is_overtaken"), 0, SAMPLE, NEWER, CHECKED, "rt: ok")
+    os.utime(clone / PROGRAM, (0, 0))
+    compare("changed while it is built", place.use(clone, "is_overtaken"), 0, SAMPLE, NEWER, RUN, RUNNING)
     compare("changed while it was built, then no rt", place.use(clone), 2, "", f"{NEWER}{NO_RT}")
 
 
@@ -393,7 +410,7 @@ def compare_locked_clones(place, user):
     """Clones that may not be written: nothing is begun in them, and one that is built is good."""
     bare = place.clone("bare", built=False)
     outdated = place.clone("outdated", built=True)
-    os.utime(outdated / "target/bin/report", (1, 1))
+    os.utime(outdated / PROGRAM, (1, 1))
     whole = place.clone("whole", built=True)
     for clone, reason in ((bare, NOT_BUILT), (outdated, NEWER), (whole, None)):
         set_folders(clone, 0o555)
@@ -415,7 +432,7 @@ def compare_permissions(place, clone):
 
 def main():
     if not BUILT.exists():
-        sys.exit(f"{BUILT} is not there: rt check report builds it")
+        sys.exit(f"{BUILT} is not there: rt run, in crates/report, builds it")
     os.umask(0o022)
     with tempfile.TemporaryDirectory() as folder:
         place = Place(folder)
