@@ -16,12 +16,12 @@ fn main() {
 
 fn link_checksum() {
     let manifest = env::var_os("CARGO_MANIFEST_DIR").expect("cargo sets CARGO_MANIFEST_DIR");
-    let dir = Path::new(&manifest).join("../target/staticlib");
+    let dir = Path::new(&manifest).join("../crates/test_checksum_export/out");
     let library = dir.join("libtest_checksum_export.a");
     println!("cargo:rerun-if-changed={}", library.display());
     assert!(
         library.is_file(),
-        "{} is missing: `rt staticlib test_checksum_export`, run at the root of the repository, makes it.",
+        "{} is missing: `rt lib`, run in crates/test_checksum_export, makes it.",
         library.display()
     );
     println!("cargo:rustc-link-search=native={}", dir.display());

@@ -1,6 +1,6 @@
 /* Galtuyeg: Dreamcast system flash partitions, their game slots, and VMU memory cards, on images that the caller lends.
  *
- * Link target/staticlib/libcapi.a, which `rt staticlib capi` makes (x86-64).
+ * Link crates/capi/out/libcapi.a, which `rt lib` in crates/capi makes (x86-64).
  *
  * Every call ends, tests its own input, and reads and writes only inside the buffers it is lent. It answers a number: 0 when it
  * is done, else the refusal's, and then no byte of any buffer has changed. docs/MANUAL.md says what to do about each number.

@@ -12,7 +12,7 @@ fn main() {
     println!("cargo:rerun-if-changed={}", library.display());
     assert!(
         library.is_file(),
-        "{} is missing: `rt staticlib capi`, run at the root of the repository, makes it. \
+        "{} is missing: `rt lib`, run in crates/capi, makes it. \
          Where it is elsewhere, {LIB_DIR} names its directory, from / on or from rust/galtuyeg.",
         library.display()
     );
@@ -26,7 +26,7 @@ fn library_dir() -> PathBuf {
     let manifest = Path::new(&manifest);
     let dir = match env::var_os(LIB_DIR) {
         Some(named) => manifest.join(named),
-        None => manifest.join("../../target/staticlib"),
+        None => manifest.join("../../crates/capi/out"),
     };
     dir.canonicalize().unwrap_or(dir)
 }
