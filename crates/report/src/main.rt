@@ -3,7 +3,7 @@
 // Reads a partition image from standard input and prints its report. The text is made by the library `report_text`.
 ghost use Rattle.report.specs.Inputs.{Held, HeldImage};
 
-use libc::{STDERR_FILENO, STDIN_FILENO, STDOUT_FILENO};
+use std::io::{self, Read};
 
 // What one read gave: n bytes, 0 at the input's end, or an error.
 #[derive(Clone, Copy)]
@@ -20,22 +20,21 @@ enum Input {
     Unread,
 }
 
-fn read_some(part: &mut [u8]) -> Got
+fn read_some<R: Read>(input: &mut R, part: &mut [u8]) -> Got
     ensures { Held result part.new }
 {
-    let answer = libc::read(STDIN_FILENO, part);
-    if answer < 0 {
-        return Got::Failed;
+    match input.read(part) {
+        Ok(count) => Got::Bytes(count),
+        Err(_) => Got::Failed,
     }
-    Got::Bytes(io::count(answer, part))
 }
 
 // Tries one byte more, behind an image that fills the buffer.
-fn read_past(image: &[u8]) -> Input
+fn read_past<R: Read>(input: &mut R, image: &[u8]) -> Input
     ensures { HeldImage result image.now }
 {
     let mut more = [0u8; 1];
-    let Got::Bytes(count) = read_some(&mut more) else {
+    let Got::Bytes(count) = read_some(input, &mut more) else {
         return Input::Unread;
     };
     if count == 0 {
@@ -45,12 +44,12 @@ fn read_past(image: &[u8]) -> Input
 }
 
 // Reads to the end of the input, or until the buffer is too short for it.
-fn read_image(image: &mut [u8]) -> Input
+fn read_image<R: Read>(input: &mut R, image: &mut [u8]) -> Input
     ensures { HeldImage result image.new }
 {
     let mut done = 0;
     while done < image.len() {
-        let Got::Bytes(count) = read_some(&mut image[done..]) else {
+        let Got::Bytes(count) = read_some(input, &mut image[done..]) else {
             return Input::Unread;
         };
         if count == 0 {
@@ -58,34 +57,33 @@ fn read_image(image: &mut [u8]) -> Input
         }
         done += count;
     }
-    read_past(image)
+    read_past(input, image)
 }
 
-fn print(text: &[u8]) {
-    if !io::write_all(STDOUT_FILENO, text) {
-        io::write_all(STDERR_FILENO, b"cannot write the report\n");
+fn print(rt: &(impl Print + Eprint), text: &[u8]) -> io::Result<()> {
+    if rt.write_all(text).is_err() {
+        return eprintln!(rt; "cannot write the report");
     }
+    Ok(())
 }
 
-fn print_report(image: &[u8]) {
+fn print_report(rt: &(impl Print + Eprint), image: &[u8]) -> io::Result<()> {
     let mut text = [0u8; 12288];
     let end = report_text::write_report(image, &mut text);
-    print(&text[..end]);
+    print(rt, &text[..end])
 }
 
-fn print_too_long() {
+fn print_too_long(rt: &(impl Print + Eprint)) -> io::Result<()> {
     let mut text = [0u8; 12288];
     let end = report_text::write_too_long(&mut text);
-    print(&text[..end]);
+    print(rt, &text[..end])
 }
 
-fn main() {
-    let mut image = io::large_buffer();
-    match read_image(&mut image) {
-        Input::Image(length) => print_report(&image[..length]),
-        Input::TooLong => print_too_long(),
-        Input::Unread => {
-            io::write_all(STDERR_FILENO, b"cannot read the image\n");
-        }
+fn main(rt: HostRuntime) -> io::Result<()> {
+    let mut image = [0u8; 65536];
+    match read_image(&mut rt.stdin(), &mut image) {
+        Input::Image(length) => print_report(&rt, &image[..length]),
+        Input::TooLong => print_too_long(&rt),
+        Input::Unread => eprintln!(rt; "cannot read the image"),
     }
 }

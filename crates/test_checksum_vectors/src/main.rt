@@ -2,31 +2,29 @@
 
 // Prints the checksums of a fixed set of runs, a line each: the family, the length or the block, the checksum in hex.
 // tests/vectors/checksum.py makes the same lines from Python's own CRC; they are the file stdout beside src/.
-use libc::STDOUT_FILENO;
+use std::io;
 
-fn print_line(family: &[u8], number: usize, sum: u16) {
-    io::write_all(STDOUT_FILENO, family);
-    io::write_all(STDOUT_FILENO, b" ");
-    io::print_decimal(STDOUT_FILENO, number as u64);
-    io::write_all(STDOUT_FILENO, b" ");
-    io::print_hex(STDOUT_FILENO, sum as u64, 4);
-    io::write_all(STDOUT_FILENO, b"\n");
+fn print_line(rt: &impl Print, family: &[u8], number: usize, sum: u16) -> io::Result<()> {
+    rt.write_all(family)?;
+    println!(rt; " {number} {sum:04x}")
 }
 
 // The first n bytes, for n from 0 to 300: no bytes, less than a block, and more than 256.
-fn print_lengths(family: &[u8], bytes: [u8; 512]) {
+fn print_lengths(rt: &impl Print, family: &[u8], bytes: [u8; 512]) -> io::Result<()> {
     for n in 0..301 {
-        print_line(family, n, checksum::checksum(&bytes[0..n]));
+        print_line(rt, family, n, checksum::checksum(&bytes[0..n]))?;
     }
+    Ok(())
 }
 
 // The first 62 bytes of each block of 64: runs of a user block's length that begin inside a larger buffer.
-fn print_blocks(family: &[u8], bytes: [u8; 512]) {
+fn print_blocks(rt: &impl Print, family: &[u8], bytes: [u8; 512]) -> io::Result<()> {
     for k in 0..8 {
         let start = k * 64;
         let end = start + 62;
-        print_line(family, k, checksum::checksum(&bytes[start..end]));
+        print_line(rt, family, k, checksum::checksum(&bytes[start..end]))?;
     }
+    Ok(())
 }
 
 fn rising_bytes() -> [u8; 512] {
@@ -52,11 +50,11 @@ fn random_bytes() -> [u8; 512] {
     bytes
 }
 
-fn main() {
+fn main(rt: HostRuntime) -> io::Result<()> {
     let random = random_bytes();
-    print_lengths(b"zero", [0u8; 512]);
-    print_lengths(b"ff", [255u8; 512]);
-    print_lengths(b"rising", rising_bytes());
-    print_lengths(b"random", random);
-    print_blocks(b"block", random);
+    print_lengths(&rt, b"zero", [0u8; 512])?;
+    print_lengths(&rt, b"ff", [255u8; 512])?;
+    print_lengths(&rt, b"rising", rising_bytes())?;
+    print_lengths(&rt, b"random", random)?;
+    print_blocks(&rt, b"block", random)
 }

@@ -1,6 +1,7 @@
 // One partition from empty to full, saved over and erased. Each stage is a line.
 use flash::LiveNumber;
-use test_printing::{print_number, print_text};
+use std::io;
+use test_printing::print_text;
 use test_scenarios::pages::{format, save_numbers};
 
 // The numbers below this are saved again. On a full partition more of them would take long.
@@ -25,54 +26,67 @@ fn count_by_walk(image: &[u8], partition: u8, end: usize) -> usize {
 
 // A line: length, stage, the report's counts, the walk's count, and whether the numbers read back: those below AGAIN as the
 // pages of the round, the rest to below `end` as the pages of round 1.
-fn print_stage(stage: &[u8], image: &[u8], partition: u8, end: usize, round: usize) {
-    print_text(b"length ");
-    print_number(image.len());
-    print_text(b" ");
-    print_text(stage);
-    print_text(b":");
-    test_printing::print_report_values(image, partition);
-    print_text(b" walked ");
-    print_number(count_by_walk(image, partition, 2000));
-    print_text(b" first 100");
-    test_printing::print_read_back(image, partition, 0, AGAIN, round);
-    print_text(b" rest");
-    test_printing::print_read_back(image, partition, AGAIN, end, 1);
-    test_printing::print_image_sum(image);
-    print_text(b"\n");
+fn print_stage(
+    rt: &impl Print,
+    stage: &[u8],
+    image: &[u8],
+    partition: u8,
+    end: usize,
+    round: usize,
+) -> io::Result<()> {
+    print!(rt; "length {} ", image.len())?;
+    print_text(rt, stage)?;
+    print!(rt; ":")?;
+    test_printing::print_report_values(rt, image, partition)?;
+    print!(rt;
+        " walked {} first 100",
+        count_by_walk(image, partition, 2000)
+    )?;
+    test_printing::print_read_back(rt, image, partition, 0, AGAIN, round)?;
+    print!(rt; " rest")?;
+    test_printing::print_read_back(rt, image, partition, AGAIN, end, 1)?;
+    test_printing::print_image_sum(rt, image)?;
+    println!(rt; "")
 }
 
 // Some numbers saved twice, by appends: the erase drops their stale copies.
-fn run_sparse(image: &mut [u8], partition: u8) {
+fn run_sparse(rt: &impl Print, image: &mut [u8], partition: u8) -> io::Result<()> {
     format(image, partition, 1);
     save_numbers(image, partition, AGAIN, 1);
     save_numbers(image, partition, AGAIN, 2);
-    print_stage(b"saved twice", &image[..], partition, AGAIN, 2);
-    test_printing::print_answer(b"erase", flash::erase(image, partition));
-    print_stage(b"saved twice, erased", &image[..], partition, AGAIN, 2);
+    print_stage(rt, b"saved twice", &image[..], partition, AGAIN, 2)?;
+    test_printing::print_answer(rt, b"erase", flash::erase(image, partition))?;
+    print_stage(rt, b"saved twice, erased", &image[..], partition, AGAIN, 2)
 }
 
 // Every number saved, then some saved over: each of those saves is a compaction.
-fn run_full(image: &mut [u8], partition: u8, capacity: usize) {
+fn run_full(rt: &impl Print, image: &mut [u8], partition: u8, capacity: usize) -> io::Result<()> {
     format(image, partition, 1);
     save_numbers(image, partition, capacity, 1);
-    print_stage(b"filled", &image[..], partition, capacity, 1);
+    print_stage(rt, b"filled", &image[..], partition, capacity, 1)?;
     save_numbers(image, partition, AGAIN, 2);
-    print_stage(b"saved over", &image[..], partition, capacity, 2);
-    test_printing::print_answer(b"erase", flash::erase(image, partition));
-    print_stage(b"saved over, erased", &image[..], partition, capacity, 2);
+    print_stage(rt, b"saved over", &image[..], partition, capacity, 2)?;
+    test_printing::print_answer(rt, b"erase", flash::erase(image, partition))?;
+    print_stage(
+        rt,
+        b"saved over, erased",
+        &image[..],
+        partition,
+        capacity,
+        2,
+    )
 }
 
-fn run(image: &mut [u8], partition: u8, capacity: usize) {
-    run_sparse(image, partition);
-    run_full(image, partition, capacity);
+fn run(rt: &impl Print, image: &mut [u8], partition: u8, capacity: usize) -> io::Result<()> {
+    run_sparse(rt, image, partition)?;
+    run_full(rt, image, partition, capacity)
 }
 
-pub(crate) fn lengths() {
+pub(crate) fn lengths(rt: &impl Print) -> io::Result<()> {
     let mut short = [0u8; 16384];
-    run(&mut short, 2, 254);
+    run(rt, &mut short, 2, 254)?;
     let mut middle = [0u8; 32768];
-    run(&mut middle, 3, 510);
+    run(rt, &mut middle, 3, 510)?;
     let mut long = [0u8; 65536];
-    run(&mut long, 4, 1021);
+    run(rt, &mut long, 4, 1021)
 }
