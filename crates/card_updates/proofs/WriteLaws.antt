@@ -36,7 +36,6 @@ use Rattle.card_updates.proofs.CountLaws.{count_down, has_kept}
 use Rattle.card_updates.proofs.SortLaws.{Sorted, sorted-keep, sorted-across, sorted-at, numbers-down, down-sorted, down-has}
 use Rattle.card_updates.proofs.RoomLaws.{never_full}
 use Rattle.card_updates.proofs.ReplaceLaws.{same_orphans}
-use Rattle.card_updates.proofs.FileLaws.{new_name}
 use Rattle.card_updates.proofs.FileLaws.{HoldsBytes}
 use Rattle.card_updates.proofs.PlacedLaws.{Placing, placed-only, placed-replaced, placed-sound, placed-file, placed-others, placed-kept}
 
