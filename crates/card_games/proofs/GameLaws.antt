@@ -1,7 +1,7 @@
 -- A chain that is followed block by block, and the game rule. Assumes nothing.
 use Prim.Native.Nat.{ℕ, zero, suc, ◌+◌, ◌-◌, ◌≤◌, ◌<◌}
-use mathlib.Core.Path.{◌≡◌, refl, sym, ◌∙◌}
-use mathlib.Core.Bool.{true, false, not, ◌&&◌, ◌||◌, or-true, or-false, false≢true, true≢false}
+use mathlib.Core.Path.{◌≡◌, refl, sym, ap, ◌∙◌}
+use mathlib.Core.Bool.{Bool, true, false, not, ◌&&◌, ◌||◌, or-true, or-false, false≢true, true≢false}
 use mathlib.Core.List.{List, ◌∷◌}
 use mathlib.Core.Option.{Option, none, some, map}
 use native.Mathlib.Omega.{arith}
@@ -14,6 +14,7 @@ use Rattle.card_model.specs.declared.Link.TheVariants.{Free, Damaged, Last, Next
 use Rattle.card_model.specs.Table.{link_at}
 use Rattle.card_model.specs.Entries.{kind, first_block, size, is_used, is_game, wrong_entry, entry_at}
 use Rattle.card_model.specs.Files.{chain_step, chain, bad_chain, or_empty, file_of, rising, breaks_game_rule}
+use Rattle.card_games.specs.Rules.{leads_to}
 use Rattle.card_model.proofs.ChainLaws.{chain_head}
 use Rattle.card_model.proofs.EntryLaws.{right-entry, file-chain}
 
@@ -105,3 +106,27 @@ module _ (directory : List (List ℕ)) (i : ℕ) {s : List ℕ} (e : s ≡ entry
 
         pub else-rising : size s ≤ 128 → not (rising (file_of table s)) ≡ breaks_game_rule table directory i
         else-rising h = sym (rule ∙ rw (g, a, eq-eqb (first_block s) 0 z, le-ltb 128 (size s) h, or-false))
+
+-- ---- a chain that is passed block by block: it goes on here, and whether it rises from here on is whether it rises at all
+
+module _ (table : List ℕ) (blocks : ℕ) where
+  abbrev pub rises_from : ℕ → Bool
+  rises_from b = rising (or_empty (chain table (blocks - b) b))
+
+  pub record Risen (b : ℕ) : Type 0 where
+    pub there : is_some (chain table (blocks - b) b) ≡ true
+    pub decides : rising (or_empty (chain table blocks 0)) ≡ rises_from b
+
+  module _ (b : ℕ) (h : b + 1 < blocks) (r : Risen b) where
+    pub risen-next : leads_to (link_at table b) (b + 1) ≡ true → Risen (b + 1)
+    risen-next q =
+        let g = chain-goes-on table (blocks - b) b (omega arith) r.there in
+        let t = ap (λ (l : Link). leads_to l (b + 1)) (sym g.link_is) ∙ q in
+        let e : g.next ≡ b + 1 = eqb-true _ _ t in
+        let k : blocks - b - 1 ≡ blocks - (b + 1) = omega arith in
+        record { there = rw (← k, ← e) g.there; decides = r.decides ∙ g.rises ∙ rw (t, k, e) }
+
+    pub risen-not : leads_to (link_at table b) (b + 1) ≡ false → rising (or_empty (chain table blocks 0)) ≡ false
+    risen-not q =
+        let g = chain-goes-on table (blocks - b) b (omega arith) r.there in
+        r.decides ∙ g.rises ∙ rw (ap (λ (l : Link). leads_to l (b + 1)) (sym g.link_is) ∙ q)
