@@ -1,0 +1,84 @@
+-- The rows in their order, each `return` the first that refuses.
+use Prim.Native.Nat.{ℕ}
+use mathlib.Core.Path.{◌≡◌, sym, ap, ◌∙◌}
+use mathlib.Core.List.{List}
+use borrow.Author.Tests.{eq-eqb}
+use Rattle.verdicts.specs.declared.Verdict.{Verdict}
+use Rattle.verdicts.specs.Rows.{accepted, unless_refused}
+use Rattle.card_model.specs.Layout.{root_of, table_of, directory_of}
+use Rattle.card_model.specs.Entries.{entry_row, name_row}
+use Rattle.card_model.specs.Files.{game_row}
+use Rattle.card_model.specs.Calls.{table_rows, directory_rows, verdict_of}
+use Rattle.card_model.proofs.SoundLaws.{accepted-rows}
+use Rattle.card_chains.specs.Rows.{chain_rows}
+use Rattle.card_check.proofs.RowLaws.{refusal, refuses, passes, entries-right, chains-good, right-length, from-26}
+use Rattle.card_check.proofs.open_right_length.Goals as goal
+
+abbrev from_29 : List ℕ → Verdict
+from_29 s = unless_refused (name_row (directory_of s)) (game_row (table_of s) (directory_of s))
+
+abbrev from_27 : List ℕ → Verdict
+from_27 s = unless_refused (chain_rows (table_of s) (directory_of s)) (from_29 s)
+
+pub returns-then-of_table-ne0 : goal.returns-then-of_table-ne0
+returns-then-of_table-ne0 c =
+    let at-21 : unless_refused (table_rows (root_of c.args.card.now) (table_of c.args.card.now)) (directory_rows (table_of c.args.card.now) (directory_of c.args.card.now)) ≡ verdict_of c.args.card.now = right-length _ c.requires.0 in
+    record { verdict_value = (refusal {A = Unit {0}} c.not_opened.ensures.0 c.if-of_table-ne0.true (refuses _ _ at-21 c.table_verdict-of_table.ensures c.if-of_table-ne0.true)).0; open_card = (refusal c.not_opened.ensures.0 c.if-of_table-ne0.true (refuses _ _ at-21 c.table_verdict-of_table.ensures c.if-of_table-ne0.true)).1 }
+
+pub returns-then-entries-ne0 : goal.returns-then-entries-ne0
+returns-then-entries-ne0 c =
+    let at-21 : unless_refused (table_rows (root_of c.args.card.now) (table_of c.args.card.now)) (directory_rows (table_of c.args.card.now) (directory_of c.args.card.now)) ≡ verdict_of c.args.card.now = right-length _ c.requires.0 in
+    let at-26 : unless_refused (entry_row (directory_of c.args.card.now)) (from_27 c.args.card.now) ≡ verdict_of c.args.card.now = sym (from-26 _ _) ∙ passes _ _ at-21 c.table_verdict-of_table.ensures c.if-of_table-ne0.false in
+    record { verdict_value = (refusal {A = Unit {0}} c.not_opened-then-entries-ne0.ensures.0 c.if-entries-ne0.true (refuses _ _ at-26 c.entry_row-entries.ensures c.if-entries-ne0.true)).0; open_card = (refusal c.not_opened-then-entries-ne0.ensures.0 c.if-entries-ne0.true (refuses _ _ at-26 c.entry_row-entries.ensures c.if-entries-ne0.true)).1 }
+
+pub list_used-count-requires : goal.list_used-count-requires
+list_used-count-requires c =
+    (c.requires.0, c.requires.1)
+
+pub entry_row-entries-requires : goal.entry_row-entries-requires
+entry_row-entries-requires c =
+    record { card_len = c.requires.0; listed = c.list_used-count.ensures }
+
+pub walk_files-chains-requires : goal.walk_files-chains-requires
+walk_files-chains-requires c =
+    record { card_len = (c.requires.0, c.requires.2); listed = c.list_used-count.ensures; by_index = entries-right _ c.entry_row-entries.ensures c.if-entries-ne0.false }
+
+pub returns-then-chains-ne0 : goal.returns-then-chains-ne0
+returns-then-chains-ne0 c =
+    let at-21 : unless_refused (table_rows (root_of c.args.card.now) (table_of c.args.card.now)) (directory_rows (table_of c.args.card.now) (directory_of c.args.card.now)) ≡ verdict_of c.args.card.now = right-length _ c.requires.0 in
+    let at-26 : unless_refused (entry_row (directory_of c.args.card.now)) (from_27 c.args.card.now) ≡ verdict_of c.args.card.now = sym (from-26 _ _) ∙ passes _ _ at-21 c.table_verdict-of_table.ensures c.if-of_table-ne0.false in
+    let at-27 : from_27 c.args.card.now ≡ verdict_of c.args.card.now = passes _ _ at-26 c.entry_row-entries.ensures c.if-entries-ne0.false in
+    record { verdict_value = (refusal {A = Unit {0}} c.not_opened-then-chains-ne0.ensures.0 c.if-chains-ne0.true (refuses _ _ at-27 c.walk_files-chains.ensures.value c.if-chains-ne0.true)).0; open_card = (refusal c.not_opened-then-chains-ne0.ensures.0 c.if-chains-ne0.true (refuses _ _ at-27 c.walk_files-chains.ensures.value c.if-chains-ne0.true)).1 }
+
+pub name_row-names-requires : goal.name_row-names-requires
+name_row-names-requires c =
+    record { card_len = c.requires.0; listed = c.list_used-count.ensures }
+
+pub returns-then-names-ne0 : goal.returns-then-names-ne0
+returns-then-names-ne0 c =
+    let at-21 : unless_refused (table_rows (root_of c.args.card.now) (table_of c.args.card.now)) (directory_rows (table_of c.args.card.now) (directory_of c.args.card.now)) ≡ verdict_of c.args.card.now = right-length _ c.requires.0 in
+    let at-26 : unless_refused (entry_row (directory_of c.args.card.now)) (from_27 c.args.card.now) ≡ verdict_of c.args.card.now = sym (from-26 _ _) ∙ passes _ _ at-21 c.table_verdict-of_table.ensures c.if-of_table-ne0.false in
+    let at-27 : from_27 c.args.card.now ≡ verdict_of c.args.card.now = passes _ _ at-26 c.entry_row-entries.ensures c.if-entries-ne0.false in
+    let at-29 : from_29 c.args.card.now ≡ verdict_of c.args.card.now = passes _ _ at-27 c.walk_files-chains.ensures.value c.if-chains-ne0.false in
+    record { verdict_value = (refusal {A = Unit {0}} c.not_opened-then-names-ne0.ensures.0 c.if-names-ne0.true (refuses _ _ at-29 c.name_row-names.ensures c.if-names-ne0.true)).0; open_card = (refusal c.not_opened-then-names-ne0.ensures.0 c.if-names-ne0.true (refuses _ _ at-29 c.name_row-names.ensures c.if-names-ne0.true)).1 }
+
+pub game_row-requires : goal.game_row-requires
+game_row-requires c =
+    let good = chains-good _ c.entry_row-entries.ensures c.if-entries-ne0.false _ c.walk_files-chains.ensures.value c.if-chains-ne0.false in
+    record { card_len = c.requires.0; good_chains = good; listed = c.list_used-count.ensures }
+
+pub returns : goal.returns
+returns c =
+    let at-21 : unless_refused (table_rows (root_of c.args.card.now) (table_of c.args.card.now)) (directory_rows (table_of c.args.card.now) (directory_of c.args.card.now)) ≡ verdict_of c.args.card.now = right-length _ c.requires.0 in
+    let at-26 : unless_refused (entry_row (directory_of c.args.card.now)) (from_27 c.args.card.now) ≡ verdict_of c.args.card.now = sym (from-26 _ _) ∙ passes _ _ at-21 c.table_verdict-of_table.ensures c.if-of_table-ne0.false in
+    let at-27 : from_27 c.args.card.now ≡ verdict_of c.args.card.now = passes _ _ at-26 c.entry_row-entries.ensures c.if-entries-ne0.false in
+    let at-29 : from_29 c.args.card.now ≡ verdict_of c.args.card.now = passes _ _ at-27 c.walk_files-chains.ensures.value c.if-chains-ne0.false in
+    let at-30 : game_row (table_of c.args.card.now) (directory_of c.args.card.now) ≡ verdict_of c.args.card.now = passes _ _ at-29 c.name_row-names.ensures c.if-names-ne0.false in
+    let v = c.game_row.ensures ∙ at-30 in record {
+      verdict_value = v;
+      open_card = λ a. record {
+        rows = accepted-rows _ (ap accepted (sym v) ∙ a);
+        listed = c.list_used-count.ensures;
+        marked = c.walk_files-chains.ensures.marked_files (eq-eqb _ _ c.if-chains-ne0.false);
+      };
+    }
