@@ -1,17 +1,15 @@
 -- What the calls answer once the verdict v of the check is known. Assumes nothing.
 use Prim.Native.Nat.{ℕ, ◌<◌, ◌-◌}
 use mathlib.Core.Path.{◌≡◌, refl, ◌∙◌}
-use mathlib.Core.List.{List, ◌++◌}
+use mathlib.Core.List.{List}
 use mathlib.Core.Option.{Option, some}
 use native.Mathlib.Omega.{arith}
 use borrow.Author.Tests.{eq-eqb, ne_eqb}
-use lib.ListN.{length, take, drop, replicate, length-take, length-drop}
+use lib.ListN.{length, replicate}
 use Rattle.words.proofs.SearchLaws.{lowest-some}
-use Rattle.words.proofs.PartsLaws.{copied-over}
 use Rattle.verdicts.specs.declared.Verdict.{Verdict}
 use Rattle.card_model.specs.declared.Checked.{Checked}
 use Rattle.card_model.specs.Layout.{table_of, directory_of}
-use Rattle.card_model.specs.Entries.{name_of, time_of}
 use Rattle.card_model.specs.Files as files
 use Rattle.card_model.specs.Calls.{verdict_of, check_of, not_checked, not_listed, first_used, listed_from, list_of, entry_named, read_rows, read_verdict, left_by, read_buffer}
 use Rattle.card_chains.specs.Marks.{no_marks}
@@ -64,18 +62,3 @@ unfolding first_used
 used_below directory start i e =
     let l = lowest-some _ start (208 - start) i e in
     omega (arith, l.low, l.high)
-
--- ---- name and time, copied over zeros
-
-module _ (entry : List ℕ) (e : length entry ≡ 32) where
-  pub name-part : take (length (take (16 - 4) (drop 4 entry))) (take (16 - 4) (drop 4 entry)) ++ drop (length (take (16 - 4) (drop 4 entry))) (replicate 12 0) ≡ name_of entry
-  unfolding name_of
-  name-part =
-      let l : length (take 12 (drop 4 entry)) ≡ 12 = simp (length-take, length-drop) (omega arith) in
-      copied-over (take 12 (drop 4 entry)) (replicate 12 0) l
-
-  pub time-part : take (length (take (24 - 16) (drop 16 entry))) (take (24 - 16) (drop 16 entry)) ++ drop (length (take (24 - 16) (drop 16 entry))) (replicate 8 0) ≡ time_of entry
-  unfolding time_of
-  time-part =
-      let l : length (take 8 (drop 16 entry)) ≡ 8 = simp (length-take, length-drop) (omega arith) in
-      copied-over (take 8 (drop 16 entry)) (replicate 8 0) l

@@ -1,17 +1,16 @@
 -- A read from a sound card: rows 33, 31 and 32, or the block. Assumes nothing.
 use Prim.Native.Nat.{ℕ, ◌+◌, ◌-◌, ◌*◌, ◌≤◌, ◌<◌}
-use mathlib.Core.Path.{◌≡◌, refl, sym, ap, ◌∙◌}
+use mathlib.Core.Path.{◌≡◌, refl, ap, ◌∙◌}
 use mathlib.Core.Bool.{true, false, or-true}
-use mathlib.Core.List.{List, ◌++◌}
+use mathlib.Core.List.{List}
 use mathlib.Core.Option.{none, some}
 use native.Mathlib.Omega.{arith}
 use native.Mathlib.Nat.{add-sub_cancel_left}
 use borrow.Author.Tests.{ne_eqb, le-leb, lt-leb}
 use lib.Dec.{eqb}
-use lib.ListN.{length, get_or, take, drop, length-take, length-drop}
+use lib.ListN.{length, get_or, take, drop}
 use Rattle.words.proofs.Bools.{and-true-left}
 use Rattle.words.proofs.SearchLaws.{lowest-some}
-use Rattle.words.proofs.PartsLaws.{copied-over}
 use Rattle.verdicts.specs.declared.Place.TheVariants.{Whole}
 use Rattle.verdicts.specs.declared.Verdict.{Verdict}
 use Rattle.verdicts.specs.Rows.{refused_at}
@@ -83,12 +82,11 @@ module _ (card : List ℕ) (rows : NoRowRefuses card) (i : ℕ) (u : UsedEntry c
     past_end e h = (e ∙ rw (← es, le-leb (size s) index h), rw e)
 
     -- b is the block that the steps lead to, and the buffer holds what was copied over it
-    pub in_file : r ≡ refused_at 0 Whole → length buffer ≡ 512 → index < size s → (b : ℕ) → b ≡ block_after (table_of card) (first_block s) index → b < 200
-        → (left : List ℕ) → left ≡ take (length (part card b)) (part card b) ++ drop (length (part card b)) buffer
+    pub in_file : r ≡ refused_at 0 Whole → index < size s → (b : ℕ) → b ≡ block_after (table_of card) (first_block s) index → b < 200
+        → (left : List ℕ) → left ≡ part card b
         → (r ≡ index_row (directory_of card) index (some i)) × (left ≡ left_by r card index (some i) buffer)
     unfolding file_block block_at card_length
-    in_file e l h b after low left w =
-        let f : length (take 512 (drop (b * 512) card)) ≡ 512 = simp (length-take, length-drop) (omega (arith, rows.long)) in
+    in_file e h b after low left w =
         let p : part card b ≡ take 512 (drop (b * 512) card) = ap (λ (k : ℕ). take k (drop (b * 512) card)) (add-sub_cancel_left (b * 512) 512) in
         let d : b ≡ get_or (file_of (table_of card) s) index 0 = after ∙ block-of-chain (table_of card) (size s) (first_block s) (file_of (table_of card) s) chain-is index h in
-        (e ∙ rw (← es, lt-leb (size s) index h), w ∙ rw (e, p, ← es, ← d) (copied-over (take 512 (drop (b * 512) card)) buffer (f ∙ sym l)))
+        (e ∙ rw (← es, lt-leb (size s) index h), w ∙ rw (e, p, ← es, ← d))

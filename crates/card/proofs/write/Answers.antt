@@ -1,0 +1,132 @@
+use Prim.Native.Nat.{ℕ, ◌<◌}
+use mathlib.Core.Path.{◌≡◌, refl, ap, ◌∙◌}
+use native.Mathlib.Omega.{arith}
+use lib.ListN.{length}
+use borrow.Author.Tests.{eq-eqb}
+use Rattle.words.proofs.ListLaws.{all-at}
+use mathlib.Core.List.{List}
+use Rattle.verdicts.specs.declared.Verdict.{Verdict}
+use Rattle.verdicts.specs.Rows.{unless_refused}
+use Rattle.card_model.specs.Layout.{table_of, entry_place, directory_of}
+use Rattle.card_model.specs.Calls.{verdict_of}
+use Rattle.card_updates.specs.Parts.{with_part}
+use Rattle.card_updates.specs.Write.{NewFile, given_file, data_rows, taken_row, room_row, write_verdict, new_entry, with_blocks, taken_blocks}
+use Rattle.card_updates.proofs.RoomLaws.{never_full}
+use Rattle.card_updates.proofs.FileLaws.{blocks-named}
+use Rattle.card_updates.proofs.WriteLaws.{passed-rows, many, taken-holds, unused-at}
+use Rattle.card.proofs.AnswerLaws.{new-arrays}
+use Rattle.card.proofs.WriteLaws.{by-check, past-check, from-rows, by_row, past_row, by-34, is-done, taken-part, first-is, wrote}
+use Rattle.card.proofs.write.Goals as goal
+
+-- what the rows that don't refuse leave: the later rows decide
+module _ (card : List ℕ) (f : NewFile) (offset : ℕ) {v : Verdict} (e : v ≡ verdict_of card) (z : v.number ≡ 0) where
+  from-data : write_verdict card f offset ≡ unless_refused (data_rows f offset) (unless_refused (taken_row (directory_of card) f.name) (room_row (table_of card) f))
+  from-data = from-rows card f offset (past-check card f offset v e z)
+
+  module _ {given : Verdict} (g : given ≡ data_rows f offset) (gz : given.number ≡ 0) where
+    from-name : write_verdict card f offset ≡ unless_refused (taken_row (directory_of card) f.name) (room_row (table_of card) f)
+    from-name = past_row card f offset _ _ given from-data g gz
+
+    module _ {taken : Verdict} (t : taken ≡ taken_row (directory_of card) f.name) (tz : taken.number ≡ 0) where
+      from-room : write_verdict card f offset ≡ room_row (table_of card) f
+      from-room = past_row card f offset _ _ taken from-name t tz
+
+pub open-opened-requires : goal.open-opened-requires
+open-opened-requires c = new-arrays
+
+pub returns-then-opened-ne0 : goal.returns-then-opened-ne0
+returns-then-opened-ne0 c =
+    let f = given_file c.args.numbers.flag c.args.name.now c.args.time.now c.args.content.now in
+    let r = by-check c.args.card.now f c.args.numbers.offset _ c.open-opened.ensures.verdict_value c.if-opened-ne0.true in
+    record { value = r.0; card_after = r.1 }
+
+pub returns-then-given-ne0 : goal.returns-then-given-ne0
+returns-then-given-ne0 c =
+    let f = given_file c.args.numbers.flag c.args.name.now c.args.time.now c.args.content.now in
+    let r = by_row c.args.card.now f c.args.numbers.offset _ _ _ (from-data c.args.card.now f c.args.numbers.offset c.open-opened.ensures.verdict_value c.if-opened-ne0.false) c.data_rows-given.ensures c.if-given-ne0.true in
+    record { value = r.0; card_after = r.1 }
+
+pub taken_row-taken-requires : goal.taken_row-taken-requires
+taken_row-taken-requires c =
+    let is_open = c.open-opened.ensures.open_card (eq-eqb _ _ c.if-opened-ne0.false) in
+    record { card_len = is_open.rows.long; listed = is_open.listed }
+
+pub returns-then-taken-ne0 : goal.returns-then-taken-ne0
+returns-then-taken-ne0 c =
+    let f = given_file c.args.numbers.flag c.args.name.now c.args.time.now c.args.content.now in
+    let r = by_row c.args.card.now f c.args.numbers.offset _ _ _ (from-name c.args.card.now f c.args.numbers.offset c.open-opened.ensures.verdict_value c.if-opened-ne0.false c.data_rows-given.ensures c.if-given-ne0.false) c.taken_row-taken.ensures c.if-taken-ne0.true in
+    record { value = r.0; card_after = r.1 }
+
+pub list_free-requires : goal.list_free-requires
+list_free-requires c = ((c.open-opened.ensures.open_card (eq-eqb _ _ c.if-opened-ne0.false)).rows.long, refl)
+
+pub returns-then-list_free-size : goal.returns-then-list_free-size
+returns-then-list_free-size c =
+    let f = given_file c.args.numbers.flag c.args.name.now c.args.time.now c.args.content.now in
+    let room = from-room c.args.card.now f c.args.numbers.offset c.open-opened.ensures.verdict_value c.if-opened-ne0.false c.data_rows-given.ensures c.if-given-ne0.false c.taken_row-taken.ensures c.if-taken-ne0.false in
+    let r = by-34 c.args.card.now f c.args.numbers.offset _ _ c.list_free.ensures room _ c.refused_at.ensures c.if-list_free-size.true in
+    record { value = r.0; card_after = r.1 }
+
+-- ---- where there is room
+
+pub slice_bounds-write_blocks-end : goal.slice_bounds-write_blocks-end
+slice_bounds-write_blocks-end c =
+    let f = given_file c.args.numbers.flag c.args.name.now c.args.time.now c.args.content.now in
+    let room = from-room c.args.card.now f c.args.numbers.offset c.open-opened.ensures.verdict_value c.if-opened-ne0.false c.data_rows-given.ensures c.if-given-ne0.false c.taken_row-taken.ensures c.if-taken-ne0.false in
+    let p = passed-rows c.args.card.now f c.args.numbers.offset (is-done c.args.card.now f c.args.numbers.offset _ _ c.list_free.ensures room c.if-list_free-size.false) in
+    omega (arith, p.few)
+
+-- the blocks that are lent are those that the file takes
+pub write_blocks-requires : goal.write_blocks-requires
+write_blocks-requires c =
+    let f = given_file c.args.numbers.flag c.args.name.now c.args.time.now c.args.content.now in
+    let room = from-room c.args.card.now f c.args.numbers.offset c.open-opened.ensures.verdict_value c.if-opened-ne0.false c.data_rows-given.ensures c.if-given-ne0.false c.taken_row-taken.ensures c.if-taken-ne0.false in
+    let is_open = c.open-opened.ensures.open_card (eq-eqb _ _ c.if-opened-ne0.false) in
+    let p = passed-rows c.args.card.now f c.args.numbers.offset (is-done c.args.card.now f c.args.numbers.offset _ _ c.list_free.ensures room c.if-list_free-size.false) in
+    let taken = taken-part c.args.card.now f c.args.numbers.offset _ _ c.list_free.ensures room c.if-list_free-size.false in
+    let h = taken-holds c.args.card.now f c.args.numbers.offset p in
+    record {
+      card_len = rw taken (is_open.rows.long, omega (arith, many c.args.card.now f c.args.numbers.offset p, p.few), h.wide);
+      by_index = rw taken (λ j l. all-at (λ b. b < 200) (taken_blocks c.args.card.now f) j h.low l 0);
+    }
+
+-- ---- behind the blocks
+
+pub lowest_unused-requires : goal.lowest_unused-requires
+lowest_unused-requires c = (c.open-opened.ensures.open_card (eq-eqb _ _ c.if-opened-ne0.false)).listed.fits
+
+pub put_entry-requires : goal.put_entry-requires
+put_entry-requires c =
+    let f = given_file c.args.numbers.flag c.args.name.now c.args.time.now c.args.content.now in
+    let room = from-room c.args.card.now f c.args.numbers.offset c.open-opened.ensures.verdict_value c.if-opened-ne0.false c.data_rows-given.ensures c.if-given-ne0.false c.taken_row-taken.ensures c.if-taken-ne0.false in
+    let is_open = c.open-opened.ensures.open_card (eq-eqb _ _ c.if-opened-ne0.false) in
+    let p = passed-rows c.args.card.now f c.args.numbers.offset (is-done c.args.card.now f c.args.numbers.offset _ _ c.list_free.ensures room c.if-list_free-size.false) in
+    let taken = taken-part c.args.card.now f c.args.numbers.offset _ _ c.list_free.ensures room c.if-list_free-size.false in
+    let middle-is : c.write_blocks.new.card ≡ with_blocks c.args.card.now (taken_blocks c.args.card.now f) f.content = rw taken at c.write_blocks.ensures in
+    let lowest = c.lowest_unused.ensures _ is_open.listed (never_full c.args.card.now p.is_sound) in
+    let long = is_open.rows.long in
+    record {
+      card_len = (
+        ap length middle-is ∙ (blocks-named _ _ _ long (taken-holds c.args.card.now f c.args.numbers.offset p)).same_length ∙ long,
+        (unused-at _ _ lowest).in_directory,
+        p.lengths.right_name,
+        p.lengths.right_time,
+      );
+      first_bound = (omega (arith, c.wide-first.ensures.1), omega (arith, p.few), omega (arith, p.few, p.offset_below));
+    }
+
+pub returns : goal.returns
+returns c =
+    let f = given_file c.args.numbers.flag c.args.name.now c.args.time.now c.args.content.now in
+    let room = from-room c.args.card.now f c.args.numbers.offset c.open-opened.ensures.verdict_value c.if-opened-ne0.false c.data_rows-given.ensures c.if-given-ne0.false c.taken_row-taken.ensures c.if-taken-ne0.false in
+    let is_open = c.open-opened.ensures.open_card (eq-eqb _ _ c.if-opened-ne0.false) in
+    let p = passed-rows c.args.card.now f c.args.numbers.offset (is-done c.args.card.now f c.args.numbers.offset _ _ c.list_free.ensures room c.if-list_free-size.false) in
+    let taken = taken-part c.args.card.now f c.args.numbers.offset _ _ c.list_free.ensures room c.if-list_free-size.false in
+    let middle-is : c.write_blocks.new.card ≡ with_blocks c.args.card.now (taken_blocks c.args.card.now f) f.content = rw taken at c.write_blocks.ensures in
+    let lowest = c.lowest_unused.ensures _ is_open.listed (never_full c.args.card.now p.is_sound) in
+    let few = p.lengths.not_empty in
+    let first = first-is c.args.card.now f c.args.numbers.offset _ _ c.list_free.ensures room c.if-list_free-size.false (omega (arith, few)) in
+    let r = wrote c.args.card.now f c.args.numbers.offset _ _ c.list_free.ensures room c.if-list_free-size.false _ lowest _ middle-is _
+    (c.put_entry.ensures ∙ ap (λ (k : ℕ). with_part c.write_blocks.new.card (entry_place c.lowest_unused.result) (new_entry 0x33 f c.args.numbers.offset k)) (c.wide-first.ensures.0 ∙ first))
+    _ c.done.ensures in
+    record { value = r.0; card_after = r.1 }
