@@ -7,7 +7,9 @@ use Rattle.card_check.proofs.open.Goals as goal
 pub returns-then-card-ne-LENGTH : goal.returns-then-card-ne-LENGTH
 unfolding card_length
 returns-then-card-ne-LENGTH c =
-    record { verdict_value = (refusal {A = Unit {0}} (c.not_opened.ensures.0 ∙ c.refused_at.ensures) (λ z. omega (arith, z)) (wrong-length _ c.if-card-ne-LENGTH.true)).0; open_card = (refusal (c.not_opened.ensures.0 ∙ c.refused_at.ensures) (λ z. omega (arith, z)) (wrong-length _ c.if-card-ne-LENGTH.true)).1 }
+    let e = c.not_opened.ensures.0 ∙ c.refused_at.ensures in
+    let q = wrong-length _ c.if-card-ne-LENGTH.true in
+    record { verdict_value = e ∙ q; open_card = (refusal e (λ z. omega (arith, z)) q).1 }
 
 pub open_right_length-requires : goal.open_right_length-requires
 unfolding card_length

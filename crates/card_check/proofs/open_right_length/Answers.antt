@@ -2,10 +2,11 @@
 use Prim.Native.Nat.{ℕ}
 use mathlib.Core.Path.{◌≡◌, sym, ap, ◌∙◌}
 use mathlib.Core.List.{List}
+use lib.ListN.{length}
 use borrow.Author.Tests.{eq-eqb}
 use Rattle.verdicts.specs.declared.Verdict.{Verdict}
 use Rattle.verdicts.specs.Rows.{accepted, unless_refused}
-use Rattle.card_model.specs.Layout.{root_of, table_of, directory_of}
+use Rattle.card_model.specs.Layout.{card_length, root_of, table_of, directory_of}
 use Rattle.card_model.specs.Entries.{entry_row, name_row}
 use Rattle.card_model.specs.Files.{game_row}
 use Rattle.card_model.specs.Calls.{table_rows, directory_rows, verdict_of}
@@ -20,16 +21,35 @@ from_29 s = unless_refused (name_row (directory_of s)) (game_row (table_of s) (d
 abbrev from_27 : List ℕ → Verdict
 from_27 s = unless_refused (chain_rows (table_of s) (directory_of s)) (from_29 s)
 
+-- what the rows that don't refuse leave: the later rows decide
+module _ (s : List ℕ) (long : length s ≡ card_length) where
+  at-21 : unless_refused (table_rows (root_of s) (table_of s)) (directory_rows (table_of s) (directory_of s)) ≡ verdict_of s
+  at-21 = right-length s long
+
+  module _ {t : Verdict} (te : t ≡ table_rows (root_of s) (table_of s)) (tz : t.number ≡ 0) where
+    at-26 : unless_refused (entry_row (directory_of s)) (from_27 s) ≡ verdict_of s
+    at-26 = sym (from-26 _ _) ∙ passes _ _ at-21 te tz
+
+    module _ {e : Verdict} (ee : e ≡ entry_row (directory_of s)) (ez : e.number ≡ 0) where
+      at-27 : from_27 s ≡ verdict_of s
+      at-27 = passes _ _ at-26 ee ez
+
+      module _ {c : Verdict} (ce : c ≡ chain_rows (table_of s) (directory_of s)) (cz : c.number ≡ 0) where
+        at-29 : from_29 s ≡ verdict_of s
+        at-29 = passes _ _ at-27 ce cz
+
+        at-30 : {n : Verdict} → n ≡ name_row (directory_of s) → n.number ≡ 0 → game_row (table_of s) (directory_of s) ≡ verdict_of s
+        at-30 ne nz = passes _ _ at-29 ne nz
+
 pub returns-then-of_table-ne0 : goal.returns-then-of_table-ne0
 returns-then-of_table-ne0 c =
-    let at-21 : unless_refused (table_rows (root_of c.args.card.now) (table_of c.args.card.now)) (directory_rows (table_of c.args.card.now) (directory_of c.args.card.now)) ≡ verdict_of c.args.card.now = right-length _ c.requires.0 in
-    record { verdict_value = (refusal {A = Unit {0}} c.not_opened.ensures.0 c.if-of_table-ne0.true (refuses _ _ at-21 c.table_verdict-of_table.ensures c.if-of_table-ne0.true)).0; open_card = (refusal c.not_opened.ensures.0 c.if-of_table-ne0.true (refuses _ _ at-21 c.table_verdict-of_table.ensures c.if-of_table-ne0.true)).1 }
+    let q = refuses _ _ (at-21 c.args.card.now c.requires.0) c.table_verdict-of_table.ensures c.if-of_table-ne0.true in
+    record { verdict_value = c.not_opened.ensures.0 ∙ q; open_card = (refusal c.not_opened.ensures.0 c.if-of_table-ne0.true q).1 }
 
 pub returns-then-entries-ne0 : goal.returns-then-entries-ne0
 returns-then-entries-ne0 c =
-    let at-21 : unless_refused (table_rows (root_of c.args.card.now) (table_of c.args.card.now)) (directory_rows (table_of c.args.card.now) (directory_of c.args.card.now)) ≡ verdict_of c.args.card.now = right-length _ c.requires.0 in
-    let at-26 : unless_refused (entry_row (directory_of c.args.card.now)) (from_27 c.args.card.now) ≡ verdict_of c.args.card.now = sym (from-26 _ _) ∙ passes _ _ at-21 c.table_verdict-of_table.ensures c.if-of_table-ne0.false in
-    record { verdict_value = (refusal {A = Unit {0}} c.not_opened-then-entries-ne0.ensures.0 c.if-entries-ne0.true (refuses _ _ at-26 c.entry_row-entries.ensures c.if-entries-ne0.true)).0; open_card = (refusal c.not_opened-then-entries-ne0.ensures.0 c.if-entries-ne0.true (refuses _ _ at-26 c.entry_row-entries.ensures c.if-entries-ne0.true)).1 }
+    let q = refuses _ _ (at-26 c.args.card.now c.requires.0 c.table_verdict-of_table.ensures c.if-of_table-ne0.false) c.entry_row-entries.ensures c.if-entries-ne0.true in
+    record { verdict_value = c.not_opened-then-entries-ne0.ensures.0 ∙ q; open_card = (refusal c.not_opened-then-entries-ne0.ensures.0 c.if-entries-ne0.true q).1 }
 
 pub list_used-count-requires : goal.list_used-count-requires
 list_used-count-requires c =
@@ -45,10 +65,8 @@ walk_files-chains-requires c =
 
 pub returns-then-chains-ne0 : goal.returns-then-chains-ne0
 returns-then-chains-ne0 c =
-    let at-21 : unless_refused (table_rows (root_of c.args.card.now) (table_of c.args.card.now)) (directory_rows (table_of c.args.card.now) (directory_of c.args.card.now)) ≡ verdict_of c.args.card.now = right-length _ c.requires.0 in
-    let at-26 : unless_refused (entry_row (directory_of c.args.card.now)) (from_27 c.args.card.now) ≡ verdict_of c.args.card.now = sym (from-26 _ _) ∙ passes _ _ at-21 c.table_verdict-of_table.ensures c.if-of_table-ne0.false in
-    let at-27 : from_27 c.args.card.now ≡ verdict_of c.args.card.now = passes _ _ at-26 c.entry_row-entries.ensures c.if-entries-ne0.false in
-    record { verdict_value = (refusal {A = Unit {0}} c.not_opened-then-chains-ne0.ensures.0 c.if-chains-ne0.true (refuses _ _ at-27 c.walk_files-chains.ensures.value c.if-chains-ne0.true)).0; open_card = (refusal c.not_opened-then-chains-ne0.ensures.0 c.if-chains-ne0.true (refuses _ _ at-27 c.walk_files-chains.ensures.value c.if-chains-ne0.true)).1 }
+    let q = refuses _ _ (at-27 c.args.card.now c.requires.0 c.table_verdict-of_table.ensures c.if-of_table-ne0.false c.entry_row-entries.ensures c.if-entries-ne0.false) c.walk_files-chains.ensures.value c.if-chains-ne0.true in
+    record { verdict_value = c.not_opened-then-chains-ne0.ensures.0 ∙ q; open_card = (refusal c.not_opened-then-chains-ne0.ensures.0 c.if-chains-ne0.true q).1 }
 
 pub name_row-names-requires : goal.name_row-names-requires
 name_row-names-requires c =
@@ -56,11 +74,8 @@ name_row-names-requires c =
 
 pub returns-then-names-ne0 : goal.returns-then-names-ne0
 returns-then-names-ne0 c =
-    let at-21 : unless_refused (table_rows (root_of c.args.card.now) (table_of c.args.card.now)) (directory_rows (table_of c.args.card.now) (directory_of c.args.card.now)) ≡ verdict_of c.args.card.now = right-length _ c.requires.0 in
-    let at-26 : unless_refused (entry_row (directory_of c.args.card.now)) (from_27 c.args.card.now) ≡ verdict_of c.args.card.now = sym (from-26 _ _) ∙ passes _ _ at-21 c.table_verdict-of_table.ensures c.if-of_table-ne0.false in
-    let at-27 : from_27 c.args.card.now ≡ verdict_of c.args.card.now = passes _ _ at-26 c.entry_row-entries.ensures c.if-entries-ne0.false in
-    let at-29 : from_29 c.args.card.now ≡ verdict_of c.args.card.now = passes _ _ at-27 c.walk_files-chains.ensures.value c.if-chains-ne0.false in
-    record { verdict_value = (refusal {A = Unit {0}} c.not_opened-then-names-ne0.ensures.0 c.if-names-ne0.true (refuses _ _ at-29 c.name_row-names.ensures c.if-names-ne0.true)).0; open_card = (refusal c.not_opened-then-names-ne0.ensures.0 c.if-names-ne0.true (refuses _ _ at-29 c.name_row-names.ensures c.if-names-ne0.true)).1 }
+    let q = refuses _ _ (at-29 c.args.card.now c.requires.0 c.table_verdict-of_table.ensures c.if-of_table-ne0.false c.entry_row-entries.ensures c.if-entries-ne0.false c.walk_files-chains.ensures.value c.if-chains-ne0.false) c.name_row-names.ensures c.if-names-ne0.true in
+    record { verdict_value = c.not_opened-then-names-ne0.ensures.0 ∙ q; open_card = (refusal c.not_opened-then-names-ne0.ensures.0 c.if-names-ne0.true q).1 }
 
 pub game_row-requires : goal.game_row-requires
 game_row-requires c =
@@ -69,12 +84,8 @@ game_row-requires c =
 
 pub returns : goal.returns
 returns c =
-    let at-21 : unless_refused (table_rows (root_of c.args.card.now) (table_of c.args.card.now)) (directory_rows (table_of c.args.card.now) (directory_of c.args.card.now)) ≡ verdict_of c.args.card.now = right-length _ c.requires.0 in
-    let at-26 : unless_refused (entry_row (directory_of c.args.card.now)) (from_27 c.args.card.now) ≡ verdict_of c.args.card.now = sym (from-26 _ _) ∙ passes _ _ at-21 c.table_verdict-of_table.ensures c.if-of_table-ne0.false in
-    let at-27 : from_27 c.args.card.now ≡ verdict_of c.args.card.now = passes _ _ at-26 c.entry_row-entries.ensures c.if-entries-ne0.false in
-    let at-29 : from_29 c.args.card.now ≡ verdict_of c.args.card.now = passes _ _ at-27 c.walk_files-chains.ensures.value c.if-chains-ne0.false in
-    let at-30 : game_row (table_of c.args.card.now) (directory_of c.args.card.now) ≡ verdict_of c.args.card.now = passes _ _ at-29 c.name_row-names.ensures c.if-names-ne0.false in
-    let v = c.game_row.ensures ∙ at-30 in record {
+    let v = c.game_row.ensures ∙ at-30 c.args.card.now c.requires.0 c.table_verdict-of_table.ensures c.if-of_table-ne0.false c.entry_row-entries.ensures c.if-entries-ne0.false c.walk_files-chains.ensures.value c.if-chains-ne0.false c.name_row-names.ensures c.if-names-ne0.false in
+    record {
       verdict_value = v;
       open_card = λ a. record {
         rows = accepted-rows _ (ap accepted (sym v) ∙ a);
