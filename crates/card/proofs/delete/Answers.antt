@@ -20,11 +20,6 @@ pub returns-then-name-ne12 : goal.returns-then-name-ne12
 returns-then-name-ne12 c =
     record { value = (by-33 _ _ _ c.open-opened.ensures.verdict_value c.if-opened-ne0.false _ c.refused_at.ensures c.if-name-ne12.true).0; card_after = (by-33 _ _ _ c.open-opened.ensures.verdict_value c.if-opened-ne0.false _ c.refused_at.ensures c.if-name-ne12.true).1 }
 
-pub find_named-requires : goal.find_named-requires
-find_named-requires c =
-    let is_open = c.open-opened.ensures.open_card (eq-eqb _ _ c.if-opened-ne0.false) in
-    record { card_len = is_open.rows.long; listed = is_open.listed }
-
 pub returns-in_default : goal.returns-in_default
 returns-in_default c =
     let q = found_none _ (sym c.find_named.ensures ∙ c.in_default.is) in

@@ -13,11 +13,6 @@ pub returns-then-opened-ne0 : goal.returns-then-opened-ne0
 returns-then-opened-ne0 c =
     c.not_listed.ensures ∙ list-refused c.args.card.now _ c.open-opened.ensures.verdict_value c.args.from c.if-opened-ne0.true
 
-pub first_used-requires : goal.first_used-requires
-first_used-requires c =
-    let is_open = c.open-opened.ensures.open_card (eq-eqb _ _ c.if-opened-ne0.false) in
-    is_open.listed.fits
-
 pub returns-in_default : goal.returns-in_default
 returns-in_default c =
     let is_open = c.open-opened.ensures.open_card (eq-eqb _ _ c.if-opened-ne0.false) in

@@ -29,11 +29,6 @@ returns-then-block-ne512 c =
     let r = read-passed c.args.card.now _ c.open-opened.ensures.verdict_value c.args.name.now c.args.index c.args.block.now c.if-opened-ne0.false _ a.verdict_is _ a.buffer_is in
     record { value = r.0; block_after = r.1 }
 
-pub find_named-requires : goal.find_named-requires
-find_named-requires c =
-    let is_open = c.open-opened.ensures.open_card (eq-eqb _ _ c.if-opened-ne0.false) in
-    record { card_len = is_open.rows.long; listed = is_open.listed }
-
 pub returns-in_default : goal.returns-in_default
 returns-in_default c =
     let q = found_none _ (sym c.find_named.ensures ∙ c.in_default.is) in

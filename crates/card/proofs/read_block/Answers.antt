@@ -6,10 +6,6 @@ use Rattle.card_chains.specs.Steps.{block_after}
 use Rattle.card.proofs.ReadLaws.{first_below, past_end, in_file}
 use Rattle.card.proofs.read_block.Goals as goal
 
-pub entry_at-found-requires : goal.entry_at-found-requires
-entry_at-found-requires c =
-    (c.requires.0.long, c.requires.1.in_directory)
-
 pub returns-then-size-index : goal.returns-then-size-index
 returns-then-size-index c =
     let h = subst (λ (k : ℕ). k ≤ c.args.index) c.size.ensures c.if-size-index.true in

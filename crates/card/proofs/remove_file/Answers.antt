@@ -1,27 +1,18 @@
 use mathlib.Core.Path.{◌≡◌, sym, ap, subst, ◌∙◌}
 use Prim.Native.Nat.{ℕ, ◌<◌}
 use mathlib.Core.List.{List}
-use lib.ListN.{length, replicate}
+use lib.ListN.{replicate}
 use Rattle.card_model.specs.Layout.{entry_place}
 use Rattle.card_model.specs.Sound.{file_on}
 use Rattle.card_updates.specs.Parts.{with_part}
 use Rattle.card_updates.specs.Delete.{freed, without_file}
 use Rattle.card.proofs.ReadLaws.{first_below}
-use Rattle.card.proofs.DeleteLaws.{file-chained, file-freed}
+use Rattle.card.proofs.DeleteLaws.{file-chained}
 use Rattle.card.proofs.remove_file.Goals as goal
-
-pub entry_at-found-requires : goal.entry_at-found-requires
-entry_at-found-requires c =
-    (c.requires.0.long, c.requires.1.in_directory)
 
 pub free_chain-requires : goal.free_chain-requires
 free_chain-requires c =
     (c.requires.0.long, subst (λ (k : ℕ). k < 200) (sym c.first_block-first.ensures) (first_below _ c.requires.0 _ c.requires.1 _ c.entry_at-found.ensures.0))
-
-pub clear_entry-requires : goal.clear_entry-requires
-clear_entry-requires c =
-    let chain-freed : c.free_chain.new.card ≡ freed c.args.card.now (file_on c.args.card.now c.args.i) = c.free_chain.ensures _ (file-chained c.args.card.now c.requires.0 c.args.i c.requires.1 _ c.entry_at-found.ensures.0 _ _ c.first_block-first.ensures c.size-size.ensures) in
-    (ap length chain-freed ∙ file-freed c.args.card.now c.requires.0 c.args.i c.requires.1, c.requires.1.in_directory)
 
 pub returns : goal.returns
 unfolding without_file

@@ -1,5 +1,5 @@
 use Prim.Native.Nat.{ℕ, ◌<◌}
-use mathlib.Core.Path.{◌≡◌, refl, ap, ◌∙◌}
+use mathlib.Core.Path.{◌≡◌, ap, ◌∙◌}
 use native.Mathlib.Omega.{arith}
 use lib.ListN.{length}
 use borrow.Author.Tests.{eq-eqb}
@@ -46,19 +46,11 @@ returns-then-given-ne0 c =
     let r = by_row c.args.card.now f c.args.numbers.offset _ _ _ (from-data c.args.card.now f c.args.numbers.offset c.open-opened.ensures.verdict_value c.if-opened-ne0.false) c.data_rows-given.ensures c.if-given-ne0.true in
     record { value = r.0; card_after = r.1 }
 
-pub taken_row-taken-requires : goal.taken_row-taken-requires
-taken_row-taken-requires c =
-    let is_open = c.open-opened.ensures.open_card (eq-eqb _ _ c.if-opened-ne0.false) in
-    record { card_len = is_open.rows.long; listed = is_open.listed }
-
 pub returns-then-taken-ne0 : goal.returns-then-taken-ne0
 returns-then-taken-ne0 c =
     let f = given_file c.args.numbers.flag c.args.name.now c.args.time.now c.args.content.now in
     let r = by_row c.args.card.now f c.args.numbers.offset _ _ _ (from-name c.args.card.now f c.args.numbers.offset c.open-opened.ensures.verdict_value c.if-opened-ne0.false c.data_rows-given.ensures c.if-given-ne0.false) c.taken_row-taken.ensures c.if-taken-ne0.true in
     record { value = r.0; card_after = r.1 }
-
-pub list_free-requires : goal.list_free-requires
-list_free-requires c = ((c.open-opened.ensures.open_card (eq-eqb _ _ c.if-opened-ne0.false)).rows.long, refl)
 
 pub returns-then-list_free-size : goal.returns-then-list_free-size
 returns-then-list_free-size c =
@@ -68,13 +60,6 @@ returns-then-list_free-size c =
     record { value = r.0; card_after = r.1 }
 
 -- ---- where there is room
-
-pub slice_bounds-write_blocks-end : goal.slice_bounds-write_blocks-end
-slice_bounds-write_blocks-end c =
-    let f = given_file c.args.numbers.flag c.args.name.now c.args.time.now c.args.content.now in
-    let room = from-room c.args.card.now f c.args.numbers.offset c.open-opened.ensures.verdict_value c.if-opened-ne0.false c.data_rows-given.ensures c.if-given-ne0.false c.taken_row-taken.ensures c.if-taken-ne0.false in
-    let p = passed-rows c.args.card.now f c.args.numbers.offset (is-done c.args.card.now f c.args.numbers.offset _ _ c.list_free.ensures room c.if-list_free-size.false) in
-    omega (arith, p.few)
 
 -- the blocks that are lent are those that the file takes
 pub write_blocks-requires : goal.write_blocks-requires
@@ -91,9 +76,6 @@ write_blocks-requires c =
     }
 
 -- ---- behind the blocks
-
-pub lowest_unused-requires : goal.lowest_unused-requires
-lowest_unused-requires c = (c.open-opened.ensures.open_card (eq-eqb _ _ c.if-opened-ne0.false)).listed.fits
 
 pub put_entry-requires : goal.put_entry-requires
 put_entry-requires c =

@@ -68,13 +68,6 @@ loop-j-init c =
     let none = c.requires.card_len.1 in
     (omega arith, rw none (lengths-start _), refl, refl, λ h. rw none (marking-start _ _))
 
-pub listed_at-i-requires : goal.listed_at-i-requires
-listed_at-i-requires c = omega (arith, c.requires.listed.fits)
-
-pub entry_at-entry-requires : goal.entry_at-entry-requires
-entry_at-entry-requires c =
-    (c.requires.card_len.0, listed_below c.requires.listed c.loop-j.j _ c.listed_at-i.ensures (omega arith))
-
 pub walk_file-found-requires : goal.walk_file-found-requires
 walk_file-found-requires c =
     let below : c.loop-j.j < c.args.count = omega arith in

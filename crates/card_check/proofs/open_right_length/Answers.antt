@@ -51,14 +51,6 @@ returns-then-entries-ne0 c =
     let q = refuses _ _ (at-26 c.args.card.now c.requires.0 c.table_verdict-of_table.ensures c.if-of_table-ne0.false) c.entry_row-entries.ensures c.if-entries-ne0.true in
     record { verdict_value = c.not_opened-then-entries-ne0.ensures.0 ∙ q; open_card = (refusal c.not_opened-then-entries-ne0.ensures.0 c.if-entries-ne0.true q).1 }
 
-pub list_used-count-requires : goal.list_used-count-requires
-list_used-count-requires c =
-    (c.requires.0, c.requires.1)
-
-pub entry_row-entries-requires : goal.entry_row-entries-requires
-entry_row-entries-requires c =
-    record { card_len = c.requires.0; listed = c.list_used-count.ensures }
-
 pub walk_files-chains-requires : goal.walk_files-chains-requires
 walk_files-chains-requires c =
     record { card_len = (c.requires.0, c.requires.2); listed = c.list_used-count.ensures; by_index = entries-right _ c.entry_row-entries.ensures c.if-entries-ne0.false }
@@ -67,10 +59,6 @@ pub returns-then-chains-ne0 : goal.returns-then-chains-ne0
 returns-then-chains-ne0 c =
     let q = refuses _ _ (at-27 c.args.card.now c.requires.0 c.table_verdict-of_table.ensures c.if-of_table-ne0.false c.entry_row-entries.ensures c.if-entries-ne0.false) c.walk_files-chains.ensures.value c.if-chains-ne0.true in
     record { verdict_value = c.not_opened-then-chains-ne0.ensures.0 ∙ q; open_card = (refusal c.not_opened-then-chains-ne0.ensures.0 c.if-chains-ne0.true q).1 }
-
-pub name_row-names-requires : goal.name_row-names-requires
-name_row-names-requires c =
-    record { card_len = c.requires.0; listed = c.list_used-count.ensures }
 
 pub returns-then-names-ne0 : goal.returns-then-names-ne0
 returns-then-names-ne0 c =

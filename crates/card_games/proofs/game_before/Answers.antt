@@ -1,17 +1,11 @@
-use Rattle.std.proofs.Common.{rules}
-use Prim.Native.Nat.{ℕ, ◌-◌}
+use Prim.Native.Nat.{ℕ}
 use mathlib.Core.Bool.{Bool}
-use mathlib.Core.Path.{◌≡◌, sym, ap, ◌∙◌}
+use mathlib.Core.Path.{sym, ap, ◌∙◌}
 use native.Mathlib.Omega.{arith}
 use Rattle.words.proofs.LoopLaws.{any_here, any_next, any-end}
 use Rattle.card_model.specs.Layout.{directory_of}
 use Rattle.card_model.specs.Entries.{is_game, entry_at}
 use Rattle.card_games.proofs.game_before.Goals as goal
-
-pub loop-j-init : goal.loop-j-init
-loop-j-init c =
-    let e : c.args.i - 0 ≡ c.args.i = omega arith in
-    (search rules, rw e)
 
 pub returns-then-is_game : goal.returns-then-is_game
 returns-then-is_game c =

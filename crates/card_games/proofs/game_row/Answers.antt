@@ -1,22 +1,12 @@
-use mathlib.Core.Path.{refl, sym, ap, ◌∙◌}
+use mathlib.Core.Path.{sym, ap, ◌∙◌}
 use native.Mathlib.Omega.{arith}
 use Rattle.verdicts.specs.declared.Place.TheVariants.{Entry}
 use Rattle.verdicts.specs.Rows.{row_over}
 use Rattle.card_model.specs.Files.{game_row}
-use Rattle.card_directory.proofs.ListedLaws.{first_from, listed_below, found_here, found-later, found_none}
+use Rattle.card_directory.proofs.ListedLaws.{first_from, found_here, found-later, found_none}
 use Rattle.card_games.proofs.GameLaws.{unused-game}
 use Rattle.card_games.proofs.game_row.Invariants.{breaks}
 use Rattle.card_games.proofs.game_row.Goals as goal
-
-pub loop-j-init : goal.loop-j-init
-loop-j-init c = (omega arith, refl)
-
-pub listed_at-i-requires : goal.listed_at-i-requires
-listed_at-i-requires c = omega (arith, c.requires.listed.fits)
-
-pub breaks_game_rule-requires : goal.breaks_game_rule-requires
-breaks_game_rule-requires c =
-    record { card_len = (c.requires.card_len, listed_below c.requires.listed c.loop-j.j _ c.listed_at-i.ensures (omega arith)); good_chains = c.requires.good_chains }
 
 pub returns-then-breaks_game_rule : goal.returns-then-breaks_game_rule
 unfolding game_row first_from

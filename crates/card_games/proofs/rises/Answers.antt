@@ -1,4 +1,4 @@
-use Prim.Native.Nat.{◌+◌, ◌-◌}
+use Prim.Native.Nat.{◌+◌}
 use mathlib.Core.Path.{◌≡◌, sym, ap, ◌∙◌}
 use native.Mathlib.Omega.{arith}
 use Rattle.card_model.specs.declared.Link.{Link}
@@ -8,11 +8,6 @@ use Rattle.card_games.specs.Rules.{leads_to}
 use Rattle.card_games.proofs.GameLaws.{ends}
 use Rattle.card_games.proofs.GameLaws.{risen-next, risen-not}
 use Rattle.card_games.proofs.rises.Goals as goal
-
-pub loop-b-init : goal.loop-b-init
-loop-b-init c =
-    let e : c.args.blocks - 0 ≡ c.args.blocks = omega arith in
-    (omega arith, record { there = rw e c.requires.blocks_value; decides = rw e })
 
 pub returns-then-not-leads_to : goal.returns-then-not-leads_to
 unfolding link_at

@@ -1,4 +1,4 @@
-use Prim.Native.Nat.{ℕ, ◌≤◌, ◌<◌}
+use Prim.Native.Nat.{ℕ, ◌<◌}
 use mathlib.Core.Path.{◌≡◌, refl, sym, ap, subst, ◌∙◌}
 use mathlib.Core.Bool.{false}
 use mathlib.Core.List.{List}
@@ -10,30 +10,12 @@ use Rattle.card_model.specs.Layout.{directory_of}
 use Rattle.card_model.specs.Entries.{name_of, entry_at, name_taken, name_row}
 use Rattle.card_directory.proofs.ListedLaws.{first_from, found_here, found-later, found_none, listed_below}
 use Rattle.card_names.specs.Slots.{slot_of, name_at, slot_at, LastOf}
-use Rattle.card_names.proofs.NameLaws.{none-start, none-next, unstored, unused-free, last-of-none, slots-start, chained-to, slots_next, last-named, name_free, name-taken}
+use Rattle.card_names.proofs.NameLaws.{none-start, none-next, unstored, unused-free, last-of-none, slots-start, slots_next, last-named, name_free, name-taken}
 use Rattle.card_names.proofs.name_row.Goals as goal
 use Rattle.card_names.proofs.name_row.Goals.{then-earlier-ne0+else-find_same-ne0, else-earlier-ne0}
 
 pub loop-j-init : goal.loop-j-init
 loop-j-init c = (omega arith, slots-start _ _, refl, none-start)
-
-pub listed_at-i-requires : goal.listed_at-i-requires
-listed_at-i-requires c = omega (arith, c.requires.listed.fits)
-
-pub entry_at-requires : goal.entry_at-requires
-entry_at-requires c =
-    (c.requires.card_len, listed_below c.requires.listed c.loop-j.j _ c.listed_at-i.ensures (omega arith))
-
-pub find_same-requires : goal.find_same-requires
-find_same-requires c =
-    let below : c.loop-j.j < c.args.count = omega arith in
-    let is-entry : c.listed_at-i.result ≡ get_or c.args.used.now c.loop-j.j 0 = c.listed_at-i.ensures in
-    let own-slot : c.entry_slot-slot.result ≡ slot_of (name_of (entry_at (directory_of c.args.card.now) c.listed_at-i.result)) = c.entry_slot-slot.ensures.0 ∙ ap (λ (x : List ℕ). slot_of (name_of x)) c.entry_at.ensures.0 in
-    let last-of-slot : LastOf (slot_at (directory_of c.args.card.now) c.args.used.now) c.entry_slot-slot.result c.loop-j.j c.wide.result = subst (LastOf _ _ _) (sym c.wide.ensures.0) (c.loop-j.invariant.1.newest _ c.entry_slot-slot.ensures.1) in
-    let o = last-of-slot in
-    let within = o.within in
-    let small : c.wide.result ≤ 208 = omega (arith, below, c.requires.listed.fits) in
-    record { card_len = (c.requires.card_len, small, listed_below c.requires.listed c.loop-j.j _ is-entry below); chained = chained-to _ _ _ within c.loop-j.invariant.1.chains; by_index = λ x q. o.own x q ∙ own-slot }
 
 pub returns-then-find_same-ne0 : goal.returns-then-find_same-ne0
 unfolding name_row first_from

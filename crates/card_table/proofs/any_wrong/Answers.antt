@@ -1,19 +1,11 @@
-use mathlib.Core.Path.{refl, sym, ap, ◌∙◌}
+use mathlib.Core.Path.{sym, ap, ◌∙◌}
 use mathlib.Core.Bool.{Bool, ◌||◌, or_assoc, or-false}
 use native.Mathlib.Omega.{arith}
 use Rattle.words.specs.Lists.{any_of}
 use Rattle.words.proofs.LoopLaws.{numbers-next, any-end}
 use Rattle.card_model.specs.Layout.{table_of}
 use Rattle.card_table.specs.Regions.{wrong_in}
-use Rattle.card_table.proofs.TableLaws.{ready-later}
 use Rattle.card_table.proofs.any_wrong.Goals as goal
-
-pub loop-b-init : goal.loop-b-init
-loop-b-init c = (omega arith, refl)
-
-pub is_wrong-wrong-requires : goal.is_wrong-wrong-requires
-is_wrong-wrong-requires c =
-    record { card_len = (c.requires.card_len.0, omega arith); ready = ready-later c.args.region c.args.from c.loop-b.b c.loop-b.invariant.0 c.requires.ready }
 
 pub loop-b-preserved : goal.loop-b-preserved
 loop-b-preserved c =

@@ -1,5 +1,5 @@
 use Prim.Native.Nat.{◌-◌}
-use mathlib.Core.Path.{refl, sym, ap, ◌∙◌}
+use mathlib.Core.Path.{sym, ap, ◌∙◌}
 use mathlib.Core.Bool.{false≢true}
 use native.Mathlib.Omega.{arith}
 use Rattle.words.specs.Lists.{is_some}
@@ -7,15 +7,7 @@ use Rattle.words.proofs.LoopLaws.{lowest-here, lowest-next, lowest-end}
 use Rattle.words.proofs.SearchLaws.{any-lowest}
 use Rattle.card_model.specs.Layout.{table_of}
 use Rattle.card_table.specs.Regions.{wrong_in}
-use Rattle.card_table.proofs.TableLaws.{ready-later}
 use Rattle.card_table.proofs.first_wrong.Goals as goal
-
-pub loop-b-init : goal.loop-b-init
-loop-b-init c = (omega arith, refl)
-
-pub is_wrong-requires : goal.is_wrong-requires
-is_wrong-requires c =
-    record { card_len = (c.requires.card_len.0, omega arith); ready = ready-later c.args.region c.args.from c.loop-b.b c.loop-b.invariant.0 c.requires.ready }
 
 pub returns-then-is_wrong : goal.returns-then-is_wrong
 returns-then-is_wrong c =

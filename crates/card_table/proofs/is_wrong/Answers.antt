@@ -1,13 +1,6 @@
 -- One arm for each region.
-use mathlib.Core.Path.{subst}
-use Rattle.card_table.specs.declared.Region.{Region}
-use Rattle.card_table.specs.Regions.{Ready}
 use Rattle.card_model.specs.Table.{link_at, wrong_system, wrong_hidden, wrong_user}
 use Rattle.card_table.proofs.is_wrong.Goals as goal
-
-pub system_entry-requires : goal.system_entry-requires
-system_entry-requires c =
-    subst (λ (r : Region). Ready r c.args.b) c.in-System.is c.requires.ready
 
 pub returns-in-System : goal.returns-in-System
 unfolding wrong_system

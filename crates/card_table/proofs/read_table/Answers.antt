@@ -1,10 +1,6 @@
-use mathlib.Core.Path.{refl}
 use native.Mathlib.Omega.{arith}
 use Rattle.card_table.proofs.TableLaws.{read_next, read_all}
 use Rattle.card_table.proofs.read_table.Goals as goal
-
-pub loop-b-init : goal.loop-b-init
-loop-b-init c = (refl, λ j h. absurd (omega arith))
 
 pub loop-b-preserved : goal.loop-b-preserved
 loop-b-preserved c =

@@ -9,10 +9,6 @@ pub slice_bounds-root_verdict-end : goal.slice_bounds-root_verdict-end
 unfolding card_length
 slice_bounds-root_verdict-end c = search rules
 
-pub root_verdict-root-requires : goal.root_verdict-root-requires
-unfolding card_length
-root_verdict-root-requires c = search rules
-
 pub returns-then-root-ne0 : goal.returns-then-root-ne0
 unfolding root_of block_at
 returns-then-root-ne0 c =

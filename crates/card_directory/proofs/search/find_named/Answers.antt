@@ -1,21 +1,11 @@
-use mathlib.Core.Path.{refl, sym, ap, ◌∙◌}
+use mathlib.Core.Path.{sym, ap, ◌∙◌}
 use native.Mathlib.Omega.{arith}
 use Rattle.card_model.specs.Calls.{entry_named}
 use Rattle.card_directory.specs.Found.{as_found}
 use Rattle.card_directory.proofs.DirectoryLaws.{listed-named, unused-unnamed}
-use Rattle.card_directory.proofs.ListedLaws.{first_from, listed_below, listed-used, found_here, found-later, found_none}
+use Rattle.card_directory.proofs.ListedLaws.{first_from, listed-used, found_here, found-later, found_none}
 use Rattle.card_directory.proofs.search.find_named.Invariants.{named}
 use Rattle.card_directory.proofs.search.find_named.Goals as goal
-
-pub loop-j-init : goal.loop-j-init
-loop-j-init c = (omega arith, refl)
-
-pub listed_at-i-requires : goal.listed_at-i-requires
-listed_at-i-requires c = omega (arith, c.requires.listed.fits)
-
-pub entry_at-requires : goal.entry_at-requires
-entry_at-requires c =
-    (c.requires.card_len, listed_below c.requires.listed c.loop-j.j _ c.listed_at-i.ensures (omega arith))
 
 pub returns-then-has_name : goal.returns-then-has_name
 unfolding entry_named first_from

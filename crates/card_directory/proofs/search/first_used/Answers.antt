@@ -4,9 +4,6 @@ use Rattle.card_directory.specs.Found.{as_found}
 use Rattle.card_directory.proofs.ListedLaws.{reached-next, first-listed, none-listed}
 use Rattle.card_directory.proofs.search.first_used.Goals as goal
 
-pub loop-j-init : goal.loop-j-init
-loop-j-init c = (omega arith, omega arith)
-
 pub returns-then-start-i : goal.returns-then-start-i
 returns-then-start-i c directory list =
     ap as_found (sym (first-listed list _ c.loop-j.j c.loop-j.invariant.1 _ c.listed_at-i.ensures (omega arith) c.if-start-i.true))

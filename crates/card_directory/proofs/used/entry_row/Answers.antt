@@ -1,22 +1,12 @@
-use mathlib.Core.Path.{refl, sym, ap, ◌∙◌}
+use mathlib.Core.Path.{sym, ap, ◌∙◌}
 use native.Mathlib.Omega.{arith}
 use Rattle.verdicts.specs.declared.Place.TheVariants.{Entry}
 use Rattle.verdicts.specs.Rows.{row_over}
 use Rattle.card_model.specs.Entries.{wrong_entry, entry_row}
 use Rattle.card_directory.proofs.DirectoryLaws.{unused-right}
-use Rattle.card_directory.proofs.ListedLaws.{first_from, listed_below, found_here, found-later, found_none}
+use Rattle.card_directory.proofs.ListedLaws.{first_from, found_here, found-later, found_none}
 use Rattle.card_directory.proofs.used.entry_row.Invariants.{wrong}
 use Rattle.card_directory.proofs.used.entry_row.Goals as goal
-
-pub loop-j-init : goal.loop-j-init
-loop-j-init c = (omega arith, refl)
-
-pub listed_at-i-requires : goal.listed_at-i-requires
-listed_at-i-requires c = omega (arith, c.requires.listed.fits)
-
-pub entry_at-requires : goal.entry_at-requires
-entry_at-requires c =
-    (c.requires.card_len, listed_below c.requires.listed c.loop-j.j _ c.listed_at-i.ensures (omega arith))
 
 pub returns-then-wrong_entry : goal.returns-then-wrong_entry
 unfolding entry_row first_from

@@ -1,10 +1,6 @@
 use mathlib.Core.Path.{◌≡◌}
 use native.Mathlib.Omega.{arith}
-use Rattle.card_directory.proofs.ListedLaws.{listed_start}
 use Rattle.card_directory.proofs.used.list_used.Goals as goal
-
-pub loop-i-init : goal.loop-i-init
-loop-i-init c = (omega arith, listed_start _ _ c.requires.1)
 
 pub loop-i-preserved : goal.loop-i-preserved
 loop-i-preserved c = (omega arith, c.list_entry-count.ensures)

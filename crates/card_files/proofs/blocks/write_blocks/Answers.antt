@@ -1,23 +1,9 @@
 use Prim.Native.Nat.{◌+◌, ◌*◌, ◌≤◌, ◌<◌}
-use mathlib.Core.Path.{refl, sym, ap, ◌∙◌}
+use mathlib.Core.Path.{sym, ap, ◌∙◌}
 use native.Mathlib.Omega.{arith}
 use lib.ListN.{length}
 use Rattle.card_files.proofs.BlockLaws.{part-long, blocks-next, block-keeps, blocks-done}
 use Rattle.card_files.proofs.blocks.write_blocks.Goals as goal
-
-pub loop-j-init : goal.loop-j-init
-loop-j-init c = (omega arith, c.requires.card_len.0, refl)
-
-pub slice_bounds-write_block-end : goal.slice_bounds-write_block-end
-slice_bounds-write_block-end c =
-    let fits : c.loop-j.j * 512 + 512 ≤ length c.args.content.now = omega (arith, c.requires.card_len.2, c.loop-j-test.true) in
-    fits
-
-pub write_block-requires : goal.write_block-requires
-write_block-requires c =
-    let low : c.wide.result < 200 = rw c.wide.ensures.0 (c.requires.by_index c.loop-j.j c.loop-j-test.true) in
-    let fits : c.loop-j.j * 512 + 512 ≤ length c.args.content.now = omega (arith, c.requires.card_len.2, c.loop-j-test.true) in
-    record { card_len = (c.loop-j.invariant.1, low); bytes_len = (part-long _ c.loop-j.j fits, c.link_to.ensures.1) }
 
 pub loop-j-preserved : goal.loop-j-preserved
 loop-j-preserved c =

@@ -5,9 +5,6 @@ use mathlib.Core.Option.{some}
 use Rattle.card_files.proofs.UnusedLaws.{counts-next, lacks-number, behind-all}
 use Rattle.card_files.proofs.entries.lowest_unused.Goals as goal
 
-pub loop-j-init : goal.loop-j-init
-loop-j-init c = (omega arith, λ i h. absurd (omega arith))
-
 pub returns-then-listed_at-j : goal.returns-then-listed_at-j
 returns-then-listed_at-j c directory list some-unused =
     lacks-number list c.loop-j.j c.loop-j.invariant.0 c.loop-j.invariant.1 (omega arith) (λ e. c.if-listed_at-j.true (c.listed_at.ensures ∙ e))

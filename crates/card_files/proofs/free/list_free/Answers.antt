@@ -1,4 +1,3 @@
-use Prim.Native.Nat.{◌+◌, ◌-◌}
 use mathlib.Core.Path.{◌≡◌}
 use native.Mathlib.Omega.{arith}
 use Rattle.card_files.proofs.FreeLaws.{free-start}
@@ -6,11 +5,6 @@ use Rattle.card_files.proofs.free.list_free.Goals as goal
 
 pub loop-b-init : goal.loop-b-init
 loop-b-init c = (omega arith, free-start _ _ c.requires.1)
-
-pub list_block-count-requires : goal.list_block-count-requires
-list_block-count-requires c =
-    let e : c.loop-b.b - 1 + 1 ≡ c.loop-b.b = omega (arith, c.loop-b-test.true) in
-    record { card_len = (c.requires.0, omega (arith, c.loop-b-test.true, c.loop-b.invariant.0)); free_to = rw e c.loop-b.invariant.1 }
 
 pub loop-b-preserved : goal.loop-b-preserved
 loop-b-preserved c = (omega arith, c.list_block-count.ensures)
