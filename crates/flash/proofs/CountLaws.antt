@@ -1,4 +1,4 @@
--- What report and next_live_lem answer, from what the passes over the blocks give. Assumes nothing.
+-- What report and next-live answer, from what the passes over the blocks give. Assumes nothing.
 use Prim.Native.Nat.{ℕ}
 use mathlib.Core.Path.{◌≡◌, refl, sym, ap, ◌∙◌}
 use mathlib.Core.List.{List}

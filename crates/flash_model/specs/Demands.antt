@@ -118,7 +118,7 @@ pub record ReadCodes (image : List ℕ) (n : ℕ) (buffer : List ℕ) (code : �
   pub row_6 : (code ≡ 6) ↔ (top_number (length image) < n)
   -- "page buffer not 60 bytes"
   pub row_8 : (code ≡ 8) ↔ ((n ≤ top_number (length image)) × (length buffer ≢ 60))
-  -- "read or next_live_lem: nothing there"
+  -- "read or next-live: nothing there"
   pub row_7 : (code ≡ 7) ↔ ((n ≤ top_number (length image)) × (length buffer ≡ 60) × (contents image n ≡ none))
   -- "done"
   pub row_0 : (code ≡ 0) ↔ ((n ≤ top_number (length image)) × (length buffer ≡ 60) × (contents image n ≢ none))
@@ -209,7 +209,7 @@ pub record Demand2 : Type 0 where
       → Answered image (on_whole (slot_find partition product)) image' answer → answer.buffers ≡ product ∷ []
   pub claim_buffers : (image : List ℕ) (partition : ℕ) (one other image' : List ℕ) (answer : Reply)
       → Answered image (on_pages (claim partition one other)) image' answer → answer.buffers ≡ one ∷ other ∷ []
-  -- only a report, a next_live_lem and the calls that give a slot hand values back
+  -- only a report, a next-live and the calls that give a slot hand values back
   pub page_values : (image : List ℕ) (p : PageCall) (image' : List ℕ) (answer : Reply) → Answered image (on_page p) image' answer → answer.values ≡ []
   pub check_values : (image : List ℕ) (partition : ℕ) (image' : List ℕ) (answer : Reply)
       → Answered image (on_whole (check partition)) image' answer → answer.values ≡ []
@@ -218,7 +218,7 @@ pub record Demand2 : Type 0 where
   pub report_gives : (image : List ℕ) (partition : ℕ) (image' : List ℕ) (answer : Reply)
       → Answered image (on_whole (report partition)) image' answer → answer.code ≡ 0
       → answer.values ≡ version image ∷ capacity (length image) ∷ used image ∷ live image ∷ []
-  -- next_live_lem gives the number, or 7 and nothing else where there is none
+  -- next-live gives the number, or 7 and nothing else where there is none
   pub next_live_gives : (image : List ℕ) (partition start : ℕ) (image' : List ℕ) (answer : Reply)
       → Answered image (on_whole (next_live partition start)) image' answer → answer.code ≡ 0
       → (n : ℕ) × (answer.values ≡ n ∷ []) × NextLiveIs image start n

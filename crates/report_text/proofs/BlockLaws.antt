@@ -1,4 +1,4 @@
--- The block lines from a number on: what next_live_lem answers is the next of them. Assumes nothing.
+-- The block lines from a number on: what next-live answers is the next of them. Assumes nothing.
 use Prim.Native.Nat.{ℕ, zero, suc, ◌+◌, ◌-◌, ◌≤◌, ◌<◌}
 use mathlib.Core.Path.{◌≡◌, refl, sym, ap, ◌∙◌}
 use mathlib.Core.Bool.{Bool, true, false, ◌&&◌}
@@ -84,7 +84,7 @@ module _ (image : List ℕ) (sound : Sound image) (from : ℕ) where
       ap (λ (k : List ℕ). concat (map (line block_word) k))
       (keep-none (is_live image) (capacity (length image)) (capacity (length image) - from) from refl (λ m a. ap is_some (none_live image from sound e m a)))
 
--- ---- what next_live_lem answers
+-- ---- what next-live answers
 
 module _ (image : List ℕ) (partition from : ℕ) (r : LiveNumber) (a : Answered image (on_whole (next_live partition from)) image (next_answer r)) where
   abbrev asked : Call
