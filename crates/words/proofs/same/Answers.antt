@@ -1,4 +1,4 @@
-use Rattle.std.proofs.Common.{◌≡◌, sym, ap, ◌∙◌, Bool, ◌&&◌, rules}
+use Rattle.std.proofs.Common.{sym, ap, ◌∙◌, Bool, ◌&&◌, rules}
 use mathlib.Core.Bool.{and_assoc, and-true}
 use Rattle.words.proofs.WordLaws.{same-lengths, same_next, same_end}
 use Rattle.words.proofs.same.Goals as goal
