@@ -3,5 +3,5 @@
 -- Assumes nothing.
 use Rattle.std.specs.Prelude.{ℕ}
 
-abbrev pub interface_version : ℕ
-interface_version = 5
+abbrev pub version_number : ℕ
+version_number = 5

@@ -11,7 +11,7 @@ ghost use Rattle.flash_model.specs.Calls.{Answered, code_answer, reply_to, after
 ghost use Rattle.card_model.specs.Calls.{check_of, list_of, read_verdict, read_buffer};
 ghost use Rattle.card_updates.specs.Delete.{delete_verdict, deleted};
 ghost use Rattle.card_updates.specs.Write.{given_file, write_verdict, written};
-ghost use Rattle.capi.specs.Interface.{interface_version};
+ghost use Rattle.capi.specs.Interface.{version_number};
 ghost use Rattle.capi.specs.Structs.{report_of, next_live_of, slot_of, card_check_of, card_entry_of, card_verdict_of};
 
 use answers::{
@@ -25,7 +25,7 @@ const INTERFACE_VERSION: u32 = 5;
 
 #[unsafe(no_mangle)]
 pub extern "C" fn galtuyeg_version() -> u32
-    ensures { result ≡ interface_version }
+    ensures { result ≡ version_number }
 {
     INTERFACE_VERSION
 }
