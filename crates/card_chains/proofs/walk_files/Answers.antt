@@ -1,4 +1,4 @@
-use Prim.Native.Nat.{ℕ, ◌+◌, ◌≤◌, ◌<◌}
+use Prim.Native.Nat.{ℕ, ◌≤◌, ◌<◌}
 use mathlib.Core.Path.{◌≡◌, refl, sym, ap, ◌∙◌}
 use mathlib.Core.Logic.{◌⊎◌, inl, inr}
 use mathlib.Core.Bool.{Bool, true, false, cond, false≢true}
@@ -11,12 +11,13 @@ use Rattle.verdicts.specs.declared.Place.TheVariants.{Entry}
 use Rattle.verdicts.specs.declared.Verdict.{Verdict}
 use Rattle.verdicts.specs.Rows.{done, refused_at, accepted}
 use Rattle.card_model.specs.Layout.{table_of, directory_of}
-use Rattle.card_model.specs.Entries.{is_used, entry_at}
-use Rattle.card_model.specs.Files.{chain_row, sharing_row}
+use Rattle.card_model.specs.Entries.{entry_at}
+use Rattle.card_model.specs.Files.{chain_of, chain_row, sharing_row}
 use Rattle.card_model.proofs.EntryLaws.{right-entry}
 use Rattle.card_directory.specs.Listed.{reached, Listed}
 use Rattle.card_directory.proofs.ListedLaws.{reached-next, listed_below, listed-used, stays, stays-to-end, first_from, found_here, found-later, found_none}
-use Rattle.card_chains.specs.Marks.{Marking, is_shared}
+use Rattle.card_chains.specs.declared.walking.Finding.{Finding}
+use Rattle.card_chains.specs.Marks.{Marking, Walked, is_broken, is_shared}
 use Rattle.card_chains.specs.Rows.{chain_rows}
 use Rattle.card_chains.proofs.MarkLaws.{entry-walked, lengths-start, marking-start, files-stay, unused-bad, unused-shares, walk-broken, walk-lengths, walk-shares, walk-marking}
 use Rattle.card_chains.proofs.FirstLaws.{or_end, first_before, before_same, first_next, still-none, first_some, first-none}
@@ -51,16 +52,30 @@ kept-earlier r first i shared (inr t) = rw t.0 (t.1 ∙ go (ltb first 208))
     go true = refl
     go false = refl
 
+-- the walk along the file of a listed entry tells whether its chain is bad
+bad-is : (card : List ℕ) {used : List ℕ} {count : ℕ} → Listed (directory_of card) 208 used count → (j i : ℕ) → i ≡ get_or used j 0 → j < count
+    → {found : Finding} {marks marks' : List ℕ} → Walked (table_of card) (chain_of (table_of card) (entry_at (directory_of card) i)) marks found marks'
+    → {t : Bool} → t ≡ is_broken found → bad card i ≡ t
+bad-is card list j i e h w q = sym (q ∙ walk-broken _ _ _ (listed-used list j i e h) w)
+
 -- where all files are passed, j of them
 module _ (card : List ℕ) {used : List ℕ} {count : ℕ} (list : Listed (directory_of card) 208 used count) (j : ℕ) (z : j ≡ count) where
-  none-bad : first_from (bad card) 0 ≡ first_from (bad card) (reached used j) → first_from (bad card) 0 ≡ none
-  none-bad e = e ∙ found_none _ (bad card) (unused-bad _ _) list j z
-
-  first-of-all : {first : ℕ} → first ≡ or_end 208 (first_before (shares card) (reached used j)) → first ≡ or_end 208 (first_before (shares card) 208)
-  first-of-all e = e ∙ ap (or_end 208) (stays-to-end _ (first_before (shares card)) (λ k q. before_same _ k (unused-shares _ _ k q)) list j z)
-
   all-marked : {marks : List ℕ} → Marking (files card (reached used j)) marks → Marking (files card 208) marks
   all-marked m = rw (stays-to-end _ (files card) (files-stay _ _) list j z) at m
+
+  -- the first that shares a block is kept, and no chain is bad
+  module _ {first : ℕ} (kept : first ≡ or_end 208 (first_before (shares card) (reached used j))) (passed : first_from (bad card) 0 ≡ first_from (bad card) (reached used j)) where
+    none-bad : first_from (bad card) 0 ≡ none
+    none-bad = passed ∙ found_none _ (bad card) (unused-bad _ _) list j z
+
+    first-of-all : first ≡ or_end 208 (first_before (shares card) 208)
+    first-of-all = kept ∙ ap (or_end 208) (stays-to-end _ (first_before (shares card)) (λ k q. before_same _ k (unused-shares _ _ k q)) list j z)
+
+    kept-refused : first < 208 → refused_at 28 (Entry first) ≡ rows card
+    kept-refused h = sharing-refused card none-bad first (first_some (shares card) _ _ first-of-all h)
+
+    none-refused : 208 ≤ first → done ≡ rows card
+    none-refused h = neither-refused card none-bad (first-none (shares card) _ _ first-of-all h)
 
 pub loop-j-init : goal.loop-j-init
 unfolding first_before
@@ -70,39 +85,31 @@ loop-j-init c =
 
 pub walk_file-found-requires : goal.walk_file-found-requires
 walk_file-found-requires c =
-    let below : c.loop-j.j < c.args.count = omega arith in
-    let is-entry : c.listed_at-i.result ≡ get_or c.args.used.now c.loop-j.j 0 = c.listed_at-i.ensures in
-    let used : is_used (entry_at (directory_of c.args.card.now) c.listed_at-i.result) ≡ true = listed-used c.requires.listed c.loop-j.j _ is-entry below in
+    let list = c.requires.listed in
     let e = c.entry_at-entry.ensures.0 in
     let b = c.first_block.ensures in
     let n = c.size.ensures in
-    let right = right-entry _ used (c.requires.by_index _ (listed_below c.requires.listed c.loop-j.j _ is-entry below)) in
+    let right = right-entry _ (listed-used list _ _ c.listed_at-i.ensures (omega arith)) (c.requires.by_index _ (listed_below list _ _ c.listed_at-i.ensures (omega arith))) in
     (rw (b, e) right.0, rw (n, e) right.2, rw c.read_table-table.ensures c.loop-j.invariant.1)
 
 pub returns-then-is_broken : goal.returns-then-is_broken
 returns-then-is_broken c =
-    let below : c.loop-j.j < c.args.count = omega arith in
-    let is-entry : c.listed_at-i.result ≡ get_or c.args.used.now c.loop-j.j 0 = c.listed_at-i.ensures in
-    let used : is_used (entry_at (directory_of c.args.card.now) c.listed_at-i.result) ≡ true = listed-used c.requires.listed c.loop-j.j _ is-entry below in
     let walked = entry-walked c.read_table-table.ensures c.entry_at-entry.ensures.0 c.first_block.ensures c.size.ensures c.walk_file-found.ensures in
-    let b = sym (walk-broken _ _ _ used walked) ∙ sym c.is_broken.ensures ∙ c.if-is_broken.true in
+    let b = bad-is c.args.card.now c.requires.listed c.loop-j.j _ c.listed_at-i.ensures (omega arith) walked c.is_broken.ensures ∙ c.if-is_broken.true in
     let v = c.refused_at.ensures in
-    record { value = v ∙ chain-refused c.args.card.now _ (c.loop-j.invariant.2 ∙ found_here _ (bad c.args.card.now) (unused-bad _ _) c.requires.listed c.loop-j.j _ is-entry below b); marked_files = λ e. absurd (false≢true (sym (ap accepted v) ∙ e)) }
+    record { value = v ∙ chain-refused c.args.card.now _ (c.loop-j.invariant.2 ∙ found_here _ (bad c.args.card.now) (unused-bad _ _) c.requires.listed c.loop-j.j _ c.listed_at-i.ensures (omega arith) b); marked_files = λ e. absurd (false≢true (sym (ap accepted v) ∙ e)) }
 
 pub loop-j-preserved : goal.loop-j-preserved
 loop-j-preserved c =
-    let below : c.loop-j.j < c.args.count = omega arith in
-    let is-entry : c.listed_at-i.result ≡ get_or c.args.used.now c.loop-j.j 0 = c.listed_at-i.ensures in
-    let used : is_used (entry_at (directory_of c.args.card.now) c.listed_at-i.result) ≡ true = listed-used c.requires.listed c.loop-j.j _ is-entry below in
     let i = c.listed_at-i.result in
     let j = c.loop-j.j in
-    let h = below in
-    let more : j + 1 ≤ c.args.count = omega arith in
+    let is-entry = c.listed_at-i.ensures in
+    let h : j < c.args.count = omega arith in
     let first = c.loop-j.first in
     let walked = entry-walked c.read_table-table.ensures c.entry_at-entry.ensures.0 c.first_block.ensures c.size.ensures c.walk_file-found.ensures in
-    let u = used in
+    let u = listed-used c.requires.listed j i is-entry h in
     let sound = sym c.is_broken.ensures ∙ c.if-is_broken.false in
-    let good = sym (walk-broken _ _ _ u walked) ∙ sound in
+    let good = bad-is c.args.card.now c.requires.listed j i is-entry h walked c.is_broken.ensures ∙ c.if-is_broken.false in
     let m = rw (stays _ (files c.args.card.now) (files-stay _ _) c.requires.listed j i is-entry h) at c.loop-j.invariant.4 in
     let before = c.loop-j.invariant.3 ∙ ap (or_end 208) (stays _ (first_before (shares c.args.card.now)) (λ k q. before_same _ k (unused-shares _ _ k q)) c.requires.listed j i is-entry h) in
     let f = kept-earlier c.if-is_shared.first first i (is_shared c.walk_file-found.result)
@@ -112,7 +119,7 @@ loop-j-preserved c =
     ]) in
     let b = listed_below c.requires.listed j i is-entry h in
     let on = reached-next _ j i is-entry in (
-      more,
+      omega arith,
       walk-lengths _ _ _ u walked sound,
       c.loop-j.invariant.2 ∙ found-later _ (bad c.args.card.now) (unused-bad _ _) c.requires.listed j i is-entry h good,
       first_next (shares c.args.card.now) _ first _ _ _ b f before (λ n. walk-shares _ _ _ u walked sound (m n)) ∙ ap (λ (k : ℕ). or_end 208 (first_before (shares c.args.card.now) k)) on,
@@ -123,18 +130,12 @@ loop-j-preserved c =
 
 pub returns-then-first-lt208 : goal.returns-then-first-lt208
 returns-then-first-lt208 c =
-    let passed : c.loop-j.j ≡ c.args.count = omega arith in
-    let none-broken : first_from (bad c.args.card.now) 0 ≡ none = none-bad _ c.requires.listed _ passed c.loop-j.invariant.2 in
-    let first-shared : c.loop-j.first ≡ or_end 208 (first_before (shares c.args.card.now) 208) = first-of-all _ c.requires.listed _ passed c.loop-j.invariant.3 in
     let v = c.refused_at-then-first-lt208.ensures in
-    record { value = v ∙ sharing-refused _ none-broken _ (first_some (shares c.args.card.now) _ _ first-shared c.if-first-lt208.true); marked_files = λ z. absurd (false≢true (sym (ap accepted v) ∙ z)) }
+    record { value = v ∙ kept-refused _ c.requires.listed c.loop-j.j (omega arith) c.loop-j.invariant.3 c.loop-j.invariant.2 c.if-first-lt208.true; marked_files = λ z. absurd (false≢true (sym (ap accepted v) ∙ z)) }
 
 pub returns : goal.returns
 returns c =
-    let passed : c.loop-j.j ≡ c.args.count = omega arith in
-    let none-broken : first_from (bad c.args.card.now) 0 ≡ none = none-bad _ c.requires.listed _ passed c.loop-j.invariant.2 in
-    let first-shared : c.loop-j.first ≡ or_end 208 (first_before (shares c.args.card.now) 208) = first-of-all _ c.requires.listed _ passed c.loop-j.invariant.3 in
     let none-shared = c.if-first-lt208.false in record {
-      value = c.done.ensures ∙ neither-refused _ none-broken (first-none (shares c.args.card.now) _ _ first-shared none-shared);
-      marked_files = λ z. record { are_lengths = c.loop-j.invariant.1; are_of_blocks = all-marked _ c.requires.listed _ passed (c.loop-j.invariant.4 none-shared) };
+      value = c.done.ensures ∙ none-refused _ c.requires.listed c.loop-j.j (omega arith) c.loop-j.invariant.3 c.loop-j.invariant.2 none-shared;
+      marked_files = λ z. record { are_lengths = c.loop-j.invariant.1; are_of_blocks = all-marked _ c.requires.listed c.loop-j.j (omega arith) (c.loop-j.invariant.4 none-shared) };
     }

@@ -14,8 +14,7 @@ returns-then-mark-ne0 t c =
 
 pub walk-requires : goal.walk-requires
 walk-requires t c =
-    let told = sym (link-read _ _ c.entry_in-e.ensures.0 c.classify.ensures) ∙ c.in-Next.is in
-    (omega arith, next-asked _ _ _ _ c.requires.walkable c.if-left-eq0.false c.requires.block_bound.0 c.if-mark-ne0.false _ told c.requires.block_bound.1)
+    (omega arith, next-asked _ _ _ _ c.requires.walkable c.if-left-eq0.false c.requires.block_bound.0 c.if-mark-ne0.false _ (sym (link-read _ _ c.entry_in-e.ensures.0 c.classify.ensures) ∙ c.in-Next.is) c.requires.block_bound.1)
 
 pub returns-in-Last : goal.returns-in-Last
 unfolding chain_step
@@ -25,23 +24,19 @@ returns-in-Last t c =
 
 pub returns-in-Next : goal.returns-in-Next
 returns-in-Next t c =
-    let told = sym (link-read _ _ c.entry_in-e.ensures.0 c.classify.ensures) ∙ c.in-Next.is in
-    walked_next _ _ _ _ c.requires.walkable c.if-left-eq0.false c.requires.block_bound.0 c.if-mark-ne0.false _ told c.walk.ensures
+    walked_next _ _ _ _ c.requires.walkable c.if-left-eq0.false c.requires.block_bound.0 c.if-mark-ne0.false _ (sym (link-read _ _ c.entry_in-e.ensures.0 c.classify.ensures) ∙ c.in-Next.is) c.walk.ensures
 
 pub returns-in-Free : goal.returns-in-Free
 unfolding chain_step
 returns-in-Free t c =
-    let link = link-read _ _ c.entry_in-e.ensures.0 c.classify.ensures in
-    walked-broken _ _ _ (chain-step _ _ _ c.if-left-eq0.false link c.in-Free.is)
+    walked-broken _ _ _ (chain-step _ _ _ c.if-left-eq0.false (link-read _ _ c.entry_in-e.ensures.0 c.classify.ensures) c.in-Free.is)
 
 pub returns-in-Damaged : goal.returns-in-Damaged
 unfolding chain_step
 returns-in-Damaged t c =
-    let link = link-read _ _ c.entry_in-e.ensures.0 c.classify.ensures in
-    walked-broken _ _ _ (chain-step _ _ _ c.if-left-eq0.false link c.in-Damaged.is)
+    walked-broken _ _ _ (chain-step _ _ _ c.if-left-eq0.false (link-read _ _ c.entry_in-e.ensures.0 c.classify.ensures) c.in-Damaged.is)
 
 pub returns-in-Bad : goal.returns-in-Bad
 unfolding chain_step
 returns-in-Bad t c =
-    let link = link-read _ _ c.entry_in-e.ensures.0 c.classify.ensures in
-    walked-broken _ _ _ (chain-step _ _ _ c.if-left-eq0.false link c.in-Bad.is)
+    walked-broken _ _ _ (chain-step _ _ _ c.if-left-eq0.false (link-read _ _ c.entry_in-e.ensures.0 c.classify.ensures) c.in-Bad.is)
