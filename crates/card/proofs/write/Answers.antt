@@ -1,21 +1,23 @@
-use Prim.Native.Nat.{ℕ, ◌<◌}
+use Prim.Native.Nat.{ℕ, ◌-◌, ◌≤◌, ◌<◌}
 use mathlib.Core.Path.{◌≡◌, ap, ◌∙◌}
 use native.Mathlib.Omega.{arith}
-use lib.ListN.{length}
+use lib.ListN.{length, get_or, take}
 use borrow.Author.Tests.{eq-eqb}
 use Rattle.words.proofs.ListLaws.{all-at}
 use mathlib.Core.List.{List}
+use mathlib.Core.Option.{some}
 use Rattle.verdicts.specs.declared.Verdict.{Verdict}
-use Rattle.verdicts.specs.Rows.{unless_refused}
+use Rattle.verdicts.specs.Rows.{done, unless_refused}
 use Rattle.card_model.specs.Layout.{table_of, entry_place, directory_of}
 use Rattle.card_model.specs.Calls.{verdict_of}
 use Rattle.card_updates.specs.Parts.{with_part}
-use Rattle.card_updates.specs.Write.{NewFile, given_file, data_rows, taken_row, room_row, write_verdict, new_entry, with_blocks, taken_blocks}
+use Rattle.card_updates.specs.Write.{NewFile, blocks_of, lowest_unused, given_file, data_rows, taken_row, room_row, write_verdict, new_entry, with_blocks, taken_blocks}
 use Rattle.card_updates.proofs.RoomLaws.{never_full}
 use Rattle.card_updates.proofs.FileLaws.{blocks-named}
-use Rattle.card_updates.proofs.WriteLaws.{passed-rows, many, taken-holds, unused-at}
+use Rattle.card_files.specs.FreeList.{FreeTo}
+use Rattle.card_updates.proofs.WriteLaws.{PassedRows, passed-rows, many, taken-holds, unused-at}
 use Rattle.card.proofs.AnswerLaws.{new-arrays}
-use Rattle.card.proofs.WriteLaws.{by-check, past-check, from-rows, by_row, past_row, by-34, is-done, taken-part, first-is, wrote}
+use Rattle.card.proofs.WriteLaws.{WroteAs, by-check, past-check, from-rows, by_row, past_row, by-34, is-done, taken-part, first-is, wrote}
 use Rattle.card.proofs.write.Goals as goal
 
 -- what the rows that don't refuse leave: the later rows decide
@@ -31,6 +33,19 @@ module _ (card : List ℕ) (f : NewFile) (offset : ℕ) {v : Verdict} (e : v ≡
       from-room : write_verdict card f offset ≡ room_row (table_of card) f
       from-room = past_row card f offset _ _ taken from-name t tz
 
+      -- where there is room: the rows that are passed, the blocks that are lent, and what is left behind them
+      module _ {free : List ℕ} {count : ℕ} (l : FreeTo (table_of card) 0 free count) (h : blocks_of f ≤ count) where
+        where-room : PassedRows card f offset × (take (blocks_of f - 0) free ≡ taken_blocks card f)
+        where-room = (passed-rows card f offset (is-done card f offset _ _ l from-room h), taken-part card f offset _ _ l from-room h)
+
+        put-entry : {i : ℕ} → (PassedRows card f offset → lowest_unused (directory_of card) ≡ some i)
+            → {middle : List ℕ} → middle ≡ with_blocks card (take (blocks_of f - 0) free) f.content → {first : ℕ} → first ≡ get_or free 0 0
+            → {after : List ℕ} → after ≡ with_part middle (entry_place i) (new_entry 0x33 f offset first) → {r : Verdict} → r ≡ done → WroteAs card f offset r after
+        put-entry {i} u {middle} m b a d =
+            let first = first-is card f offset _ _ l from-room h (omega (arith, where-room.0.lengths.not_empty)) in
+            wrote card f offset _ _ l from-room h i (u where-room.0) middle (rw where-room.1 at m) _
+            (a ∙ ap (λ (k : ℕ). with_part middle (entry_place i) (new_entry 0x33 f offset k)) (b ∙ first)) _ d
+
 pub open-opened-requires : goal.open-opened-requires
 open-opened-requires c = new-arrays
 
@@ -42,21 +57,18 @@ returns-then-opened-ne0 c =
 
 pub returns-then-given-ne0 : goal.returns-then-given-ne0
 returns-then-given-ne0 c =
-    let f = given_file c.args.numbers.flag c.args.name.now c.args.time.now c.args.content.now in
-    let r = by_row c.args.card.now f c.args.numbers.offset _ _ _ (from-data c.args.card.now f c.args.numbers.offset c.open-opened.ensures.verdict_value c.if-opened-ne0.false) c.data_rows-given.ensures c.if-given-ne0.true in
+    let r = by_row _ _ _ _ _ _ (from-data _ _ _ c.open-opened.ensures.verdict_value c.if-opened-ne0.false) c.data_rows-given.ensures c.if-given-ne0.true in
     record { value = r.0; card_after = r.1 }
 
 pub returns-then-taken-ne0 : goal.returns-then-taken-ne0
 returns-then-taken-ne0 c =
-    let f = given_file c.args.numbers.flag c.args.name.now c.args.time.now c.args.content.now in
-    let r = by_row c.args.card.now f c.args.numbers.offset _ _ _ (from-name c.args.card.now f c.args.numbers.offset c.open-opened.ensures.verdict_value c.if-opened-ne0.false c.data_rows-given.ensures c.if-given-ne0.false) c.taken_row-taken.ensures c.if-taken-ne0.true in
+    let r = by_row _ _ _ _ _ _ (from-name _ _ _ c.open-opened.ensures.verdict_value c.if-opened-ne0.false c.data_rows-given.ensures c.if-given-ne0.false) c.taken_row-taken.ensures c.if-taken-ne0.true in
     record { value = r.0; card_after = r.1 }
 
 pub returns-then-list_free-size : goal.returns-then-list_free-size
 returns-then-list_free-size c =
-    let f = given_file c.args.numbers.flag c.args.name.now c.args.time.now c.args.content.now in
-    let room = from-room c.args.card.now f c.args.numbers.offset c.open-opened.ensures.verdict_value c.if-opened-ne0.false c.data_rows-given.ensures c.if-given-ne0.false c.taken_row-taken.ensures c.if-taken-ne0.false in
-    let r = by-34 c.args.card.now f c.args.numbers.offset _ _ c.list_free.ensures room _ c.refused_at.ensures c.if-list_free-size.true in
+    let room = from-room _ _ _ c.open-opened.ensures.verdict_value c.if-opened-ne0.false c.data_rows-given.ensures c.if-given-ne0.false c.taken_row-taken.ensures c.if-taken-ne0.false in
+    let r = by-34 _ _ _ _ _ c.list_free.ensures room _ c.refused_at.ensures c.if-list_free-size.true in
     record { value = r.0; card_after = r.1 }
 
 -- ---- where there is room
@@ -64,33 +76,27 @@ returns-then-list_free-size c =
 -- the blocks that are lent are those that the file takes
 pub write_blocks-requires : goal.write_blocks-requires
 write_blocks-requires c =
-    let f = given_file c.args.numbers.flag c.args.name.now c.args.time.now c.args.content.now in
-    let room = from-room c.args.card.now f c.args.numbers.offset c.open-opened.ensures.verdict_value c.if-opened-ne0.false c.data_rows-given.ensures c.if-given-ne0.false c.taken_row-taken.ensures c.if-taken-ne0.false in
     let is_open = c.open-opened.ensures.open_card (eq-eqb _ _ c.if-opened-ne0.false) in
-    let p = passed-rows c.args.card.now f c.args.numbers.offset (is-done c.args.card.now f c.args.numbers.offset _ _ c.list_free.ensures room c.if-list_free-size.false) in
-    let taken = taken-part c.args.card.now f c.args.numbers.offset _ _ c.list_free.ensures room c.if-list_free-size.false in
-    let h = taken-holds c.args.card.now f c.args.numbers.offset p in
+    let k = where-room _ _ _ c.open-opened.ensures.verdict_value c.if-opened-ne0.false c.data_rows-given.ensures c.if-given-ne0.false c.taken_row-taken.ensures c.if-taken-ne0.false c.list_free.ensures c.if-list_free-size.false in
+    let h = taken-holds _ _ _ k.0 in
     record {
-      card_len = rw taken (is_open.rows.long, omega (arith, many c.args.card.now f c.args.numbers.offset p, p.few), h.wide);
-      by_index = rw taken (λ j l. all-at (λ b. b < 200) (taken_blocks c.args.card.now f) j h.low l 0);
+      card_len = rw k.1 (is_open.rows.long, omega (arith, many _ _ _ k.0, k.0.few), h.wide);
+      by_index = rw k.1 (λ j l. all-at (λ b. b < 200) (taken_blocks _ _) j h.low l 0);
     }
 
 -- ---- behind the blocks
 
 pub put_entry-requires : goal.put_entry-requires
 put_entry-requires c =
-    let f = given_file c.args.numbers.flag c.args.name.now c.args.time.now c.args.content.now in
-    let room = from-room c.args.card.now f c.args.numbers.offset c.open-opened.ensures.verdict_value c.if-opened-ne0.false c.data_rows-given.ensures c.if-given-ne0.false c.taken_row-taken.ensures c.if-taken-ne0.false in
     let is_open = c.open-opened.ensures.open_card (eq-eqb _ _ c.if-opened-ne0.false) in
-    let p = passed-rows c.args.card.now f c.args.numbers.offset (is-done c.args.card.now f c.args.numbers.offset _ _ c.list_free.ensures room c.if-list_free-size.false) in
-    let taken = taken-part c.args.card.now f c.args.numbers.offset _ _ c.list_free.ensures room c.if-list_free-size.false in
-    let middle-is : c.write_blocks.new.card ≡ with_blocks c.args.card.now (taken_blocks c.args.card.now f) f.content = rw taken at c.write_blocks.ensures in
-    let lowest = c.lowest_unused.ensures _ is_open.listed (never_full c.args.card.now p.is_sound) in
+    let k = where-room _ _ _ c.open-opened.ensures.verdict_value c.if-opened-ne0.false c.data_rows-given.ensures c.if-given-ne0.false c.taken_row-taken.ensures c.if-taken-ne0.false c.list_free.ensures c.if-list_free-size.false in
+    let p = k.0 in
+    let middle-is = rw k.1 at c.write_blocks.ensures in
     let long = is_open.rows.long in
     record {
       card_len = (
-        ap length middle-is ∙ (blocks-named _ _ _ long (taken-holds c.args.card.now f c.args.numbers.offset p)).same_length ∙ long,
-        (unused-at _ _ lowest).in_directory,
+        ap length middle-is ∙ (blocks-named _ _ _ long (taken-holds _ _ _ p)).same_length ∙ long,
+        (unused-at _ _ (c.lowest_unused.ensures _ is_open.listed (never_full _ p.is_sound))).in_directory,
         p.lengths.right_name,
         p.lengths.right_time,
       );
@@ -99,16 +105,7 @@ put_entry-requires c =
 
 pub returns : goal.returns
 returns c =
-    let f = given_file c.args.numbers.flag c.args.name.now c.args.time.now c.args.content.now in
-    let room = from-room c.args.card.now f c.args.numbers.offset c.open-opened.ensures.verdict_value c.if-opened-ne0.false c.data_rows-given.ensures c.if-given-ne0.false c.taken_row-taken.ensures c.if-taken-ne0.false in
     let is_open = c.open-opened.ensures.open_card (eq-eqb _ _ c.if-opened-ne0.false) in
-    let p = passed-rows c.args.card.now f c.args.numbers.offset (is-done c.args.card.now f c.args.numbers.offset _ _ c.list_free.ensures room c.if-list_free-size.false) in
-    let taken = taken-part c.args.card.now f c.args.numbers.offset _ _ c.list_free.ensures room c.if-list_free-size.false in
-    let middle-is : c.write_blocks.new.card ≡ with_blocks c.args.card.now (taken_blocks c.args.card.now f) f.content = rw taken at c.write_blocks.ensures in
-    let lowest = c.lowest_unused.ensures _ is_open.listed (never_full c.args.card.now p.is_sound) in
-    let few = p.lengths.not_empty in
-    let first = first-is c.args.card.now f c.args.numbers.offset _ _ c.list_free.ensures room c.if-list_free-size.false (omega (arith, few)) in
-    let r = wrote c.args.card.now f c.args.numbers.offset _ _ c.list_free.ensures room c.if-list_free-size.false _ lowest _ middle-is _
-    (c.put_entry.ensures ∙ ap (λ (k : ℕ). with_part c.write_blocks.new.card (entry_place c.lowest_unused.result) (new_entry 0x33 f c.args.numbers.offset k)) (c.wide-first.ensures.0 ∙ first))
-    _ c.done.ensures in
+    let r = put-entry _ _ _ c.open-opened.ensures.verdict_value c.if-opened-ne0.false c.data_rows-given.ensures c.if-given-ne0.false c.taken_row-taken.ensures c.if-taken-ne0.false c.list_free.ensures c.if-list_free-size.false
+    (λ p. c.lowest_unused.ensures _ is_open.listed (never_full _ p.is_sound)) c.write_blocks.ensures c.wide-first.ensures.0 c.put_entry.ensures c.done.ensures in
     record { value = r.0; card_after = r.1 }
