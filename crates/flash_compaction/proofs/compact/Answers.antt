@@ -1,51 +1,47 @@
-use Prim.Native.Nat.{◌≤◌, ◌<◌}
-use mathlib.Core.Path.{refl, ◌∙◌}
+use Prim.Native.Nat.{ℕ, ◌≤◌, ◌<◌}
+use mathlib.Core.Path.{◌≡◌, refl, ◌∙◌}
+use mathlib.Core.List.{List}
 use native.Mathlib.Omega.{arith}
-use lib.ListN.{length-set}
-use Rattle.flash_model.specs.Measures.{capacity}
+use lib.ListN.{length, set, length-set}
+use Rattle.flash_model.specs.Measures.{capacity, top_number}
 use Rattle.flash_model.proofs.MeasureLaws.{capacity-most}
+use Rattle.flash_partition.specs.Usable.{Usable}
+use Rattle.flash_partition.specs.declared.opening.OpenedLog.{OpenedLog}
 use Rattle.flash_partition.proofs.UsableLaws.{usable-legal, usable-has, usable-measured}
+use Rattle.flash_listing.specs.BlockTests.{kept_blocks}
 use Rattle.flash_listing.proofs.NoMarksLaws.{no_marks, none_marked}
+use Rattle.flash_moving.specs.Moving.{AllMoved}
 use Rattle.flash_compaction.proofs.CompactionLaws.{others-high, compact-is, number-low}
 use Rattle.flash_compaction.proofs.compact.Goals as goal
 
+module _ {image : List ℕ} {log : OpenedLog} (u : Usable image log) {n : ℕ} (legal : n ≤ top_number log.m.size) where
+  -- the number has its place among the marks
+  inside : n < 1021
+  inside = omega (arith, number-low u n legal, capacity-most log.m.size (usable-legal u))
+
+  -- and without its contents there is room for the new block
+  room : (page : List ℕ) {moved : List ℕ} {next : ℕ} → length page ≡ 60 → AllMoved (kept_blocks (set no_marks n 1) image log.used) image moved next → next ≤ capacity log.m.size
+  room page {moved} {next} l m = others-high u no_marks none_marked moved next n page legal l inside 1 m refl
+
 pub bounds-marks-number : goal.bounds-marks-number
-bounds-marks-number c =
-    let inside : c.args.number < 1021 = let s = c.args.log.m.size in
-    omega (arith, number-low c.requires.usable c.args.number c.requires.number_bound.0, capacity-most s (usable-legal c.requires.usable)) in
-    inside
+bounds-marks-number c = inside c.requires.usable c.requires.number_bound.0
 
 pub keep_contents-next-requires : goal.keep_contents-next-requires
 keep_contents-next-requires c = record { usable = c.requires.usable; size_in_bounds = simp length-set (capacity-most c.args.log.m.size (usable-legal c.requires.usable)) }
 
 pub write_block_at-requires : goal.write_block_at-requires
 write_block_at-requires c =
-    let inside : c.args.number < 1021 = let s = c.args.log.m.size in
-    omega (arith, number-low c.requires.usable c.args.number c.requires.number_bound.0, capacity-most s (usable-legal c.requires.usable)) in
-    let room : c.keep_contents-next.result ≤ capacity c.args.log.m.size = others-high c.requires.usable no_marks none_marked _ c.keep_contents-next.result c.args.number c.args.page.now c.requires.number_bound.0 c.requires.number_bound.1 inside
-    _ c.keep_contents-next.ensures refl in
-    let o = usable-has c.requires.usable in record { has_measures = record { has_size = c.keep_contents-next.auto.image ∙ o.has_size; is_legal = o.is_legal }; k_bound = (omega (arith, room, c.keep_contents-next.ensures.next_is), c.requires.number_bound.1, omega (arith, inside)) }
+    let o = usable-has c.requires.usable in record { has_measures = record { has_size = c.keep_contents-next.auto.image ∙ o.has_size; is_legal = o.is_legal }; k_bound = (omega (arith, room c.requires.usable c.requires.number_bound.0 c.args.page.now c.requires.number_bound.1 c.keep_contents-next.ensures, c.keep_contents-next.ensures.next_is), c.requires.number_bound.1, omega (arith, inside c.requires.usable c.requires.number_bound.0)) }
 
 pub overflow_add-next : goal.overflow_add-next
-overflow_add-next c =
-    let inside : c.args.number < 1021 = let s = c.args.log.m.size in
-    omega (arith, number-low c.requires.usable c.args.number c.requires.number_bound.0, capacity-most s (usable-legal c.requires.usable)) in
-    let room : c.keep_contents-next.result ≤ capacity c.args.log.m.size = others-high c.requires.usable no_marks none_marked _ c.keep_contents-next.result c.args.number c.args.page.now c.requires.number_bound.0 c.requires.number_bound.1 inside
-    _ c.keep_contents-next.ensures refl in
-    omega (arith, room, (usable-measured c.requires.usable).two_bytes)
+overflow_add-next c = omega (arith, room c.requires.usable c.requires.number_bound.0 c.args.page.now c.requires.number_bound.1 c.keep_contents-next.ensures, (usable-measured c.requires.usable).two_bytes)
 
 pub blank_rest-requires : goal.blank_rest-requires
 blank_rest-requires c =
-    let inside : c.args.number < 1021 = let s = c.args.log.m.size in
-    omega (arith, number-low c.requires.usable c.args.number c.requires.number_bound.0, capacity-most s (usable-legal c.requires.usable)) in
-    let room : c.keep_contents-next.result ≤ capacity c.args.log.m.size = others-high c.requires.usable no_marks none_marked _ c.keep_contents-next.result c.args.number c.args.page.now c.requires.number_bound.0 c.requires.number_bound.1 inside
-    _ c.keep_contents-next.ensures refl in
-    let o = usable-has c.requires.usable in record { has_measures = record { has_size = c.write_block_at.auto.image ∙ c.keep_contents-next.auto.image ∙ o.has_size; is_legal = o.is_legal }; le_next = (omega arith, omega (arith, room)) }
+    let o = usable-has c.requires.usable in record { has_measures = record { has_size = c.write_block_at.auto.image ∙ c.keep_contents-next.auto.image ∙ o.has_size; is_legal = o.is_legal }; le_next = (omega arith, omega (arith, room c.requires.usable c.requires.number_bound.0 c.args.page.now c.requires.number_bound.1 c.keep_contents-next.ensures)) }
 
 pub returns : goal.returns
 returns c =
-    let inside : c.args.number < 1021 = let s = c.args.log.m.size in
-    omega (arith, number-low c.requires.usable c.args.number c.requires.number_bound.0, capacity-most s (usable-legal c.requires.usable)) in
     c.blank_rest.ensures
-    ∙ compact-is c.requires.usable no_marks none_marked _ c.keep_contents-next.result c.args.number c.args.page.now c.requires.number_bound.0 c.requires.number_bound.1 inside
+    ∙ compact-is c.requires.usable no_marks none_marked _ c.keep_contents-next.result c.args.number c.args.page.now c.requires.number_bound.0 c.requires.number_bound.1 (inside c.requires.usable c.requires.number_bound.0)
     _ c.keep_contents-next.ensures refl _ c.write_block_at.ensures
