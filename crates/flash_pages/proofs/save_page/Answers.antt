@@ -1,8 +1,5 @@
-use mathlib.Core.Path.{◌≡◌, refl, sym, ◌∙◌}
+use mathlib.Core.Path.{refl, sym, ◌∙◌}
 use mathlib.Core.Bool.{true, false}
-use Rattle.flash_model.specs.Measures.{legal_number}
-use Rattle.flash_model.specs.Partition.{row}
-use Rattle.flash_model.specs.Calls.{changed_since, wrong_lengths}
 use Rattle.flash_model.proofs.MeasureLaws.{legal-le}
 use Rattle.flash_partition.proofs.UsableLaws.{usable-legal}
 use Rattle.flash_pages.proofs.StoreRules.{save-6, save-8, save-9, save-0, page_60}
@@ -18,40 +15,26 @@ returns-then-not-legal_number c =
 
 pub returns-then-wrong_lengths : goal.returns-then-wrong_lengths
 returns-then-wrong_lengths c =
-    let legal : legal_number c.args.log.m.size c.args.number ≡ true = sym c.legal_number.ensures ∙ c.if-not-legal_number.false in
-    let both = save-8 c.requires _ _ _ legal (sym c.wrong_lengths.ensures ∙ c.if-wrong_lengths.true) in
+    let both = save-8 c.requires _ _ _ (sym c.legal_number.ensures ∙ c.if-not-legal_number.false) (sym c.wrong_lengths.ensures ∙ c.if-wrong_lengths.true) in
     record { value = both.0; image_after = both.1 }
 
 pub changed_row-code-requires : goal.changed_row-code-requires
-changed_row-code-requires c =
-    let legal : legal_number c.args.log.m.size c.args.number ≡ true = sym c.legal_number.ensures ∙ c.if-not-legal_number.false in
-    record { usable = c.requires; number_value = legal }
+changed_row-code-requires c = record { usable = c.requires; number_value = sym c.legal_number.ensures ∙ c.if-not-legal_number.false }
 
 pub returns-then-code-ne0 : goal.returns-then-code-ne0
 returns-then-code-ne0 c =
-    let legal : legal_number c.args.log.m.size c.args.number ≡ true = sym c.legal_number.ensures ∙ c.if-not-legal_number.false in
-    let right : wrong_lengths c.args.expected.now c.args.page.now ≡ false = sym c.wrong_lengths.ensures ∙ c.if-wrong_lengths.false in
-    let both = save-9 c.requires _ _ _ legal right _ c.changed_row-code.ensures c.if-code-ne0.true in
+    let both = save-9 c.requires _ _ _ (sym c.legal_number.ensures ∙ c.if-not-legal_number.false) (sym c.wrong_lengths.ensures ∙ c.if-wrong_lengths.false) _ c.changed_row-code.ensures c.if-code-ne0.true in
     record { value = both.0; image_after = both.1 }
 
 pub returns-then-same : goal.returns-then-same
 returns-then-same c =
-    let legal : legal_number c.args.log.m.size c.args.number ≡ true = sym c.legal_number.ensures ∙ c.if-not-legal_number.false in
-    let right : wrong_lengths c.args.expected.now c.args.page.now ≡ false = sym c.wrong_lengths.ensures ∙ c.if-wrong_lengths.false in
-    let passed : 0 ≡ row 9 (changed_since c.args.image.now c.args.number c.args.expected.now) 0 = sym c.if-code-ne0.false ∙ c.changed_row-code.ensures in
-    let both = save-0 c.requires _ _ _ legal right passed true (sym c.if-same.true ∙ c.same.ensures) _ refl in
+    let both = save-0 c.requires _ _ _ (sym c.legal_number.ensures ∙ c.if-not-legal_number.false) (sym c.wrong_lengths.ensures ∙ c.if-wrong_lengths.false) (sym c.if-code-ne0.false ∙ c.changed_row-code.ensures) true (sym c.if-same.true ∙ c.same.ensures) _ refl in
     record { value = both.0; image_after = both.1 }
 
 pub write_page-requires : goal.write_page-requires
-write_page-requires c =
-    let legal : legal_number c.args.log.m.size c.args.number ≡ true = sym c.legal_number.ensures ∙ c.if-not-legal_number.false in
-    let right : wrong_lengths c.args.expected.now c.args.page.now ≡ false = sym c.wrong_lengths.ensures ∙ c.if-wrong_lengths.false in
-    record { usable = c.requires; number_bound = (legal-le c.args.log.m.size c.args.number legal, page_60 c.requires c.args.number c.args.expected.now c.args.page.now right) }
+write_page-requires c = record { usable = c.requires; number_bound = (legal-le c.args.log.m.size c.args.number (sym c.legal_number.ensures ∙ c.if-not-legal_number.false), page_60 c.requires c.args.number c.args.expected.now c.args.page.now (sym c.wrong_lengths.ensures ∙ c.if-wrong_lengths.false)) }
 
 pub returns : goal.returns
 returns c =
-    let legal : legal_number c.args.log.m.size c.args.number ≡ true = sym c.legal_number.ensures ∙ c.if-not-legal_number.false in
-    let right : wrong_lengths c.args.expected.now c.args.page.now ≡ false = sym c.wrong_lengths.ensures ∙ c.if-wrong_lengths.false in
-    let passed : 0 ≡ row 9 (changed_since c.args.image.now c.args.number c.args.expected.now) 0 = sym c.if-code-ne0.false ∙ c.changed_row-code.ensures in
-    let both = save-0 c.requires _ _ _ legal right passed false (sym c.if-same.false ∙ c.same.ensures) _ c.write_page.ensures in
+    let both = save-0 c.requires _ _ _ (sym c.legal_number.ensures ∙ c.if-not-legal_number.false) (sym c.wrong_lengths.ensures ∙ c.if-wrong_lengths.false) (sym c.if-code-ne0.false ∙ c.changed_row-code.ensures) false (sym c.if-same.false ∙ c.same.ensures) _ c.write_page.ensures in
     record { value = both.0; image_after = both.1 }
