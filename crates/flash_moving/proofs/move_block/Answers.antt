@@ -15,9 +15,6 @@ returns-then-from-to c =
     let a = c.args in
     rw c.if-from-to.true (sym (block-itself a.image.now a.to))
 
-pub loop-i-init : goal.loop-i-init
-loop-i-init c = (search rules, refl, paste-zero _ (c.args.to * 64) [])
-
 pub loop-i-preserved : goal.loop-i-preserved
 loop-i-preserved c =
     let a = c.args in

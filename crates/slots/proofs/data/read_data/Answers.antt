@@ -11,9 +11,6 @@ returns-then-page-ne60 c =
     let both = data-8 c.args.image.now c.args.at.slot c.args.at.block c.args.page.now c.if-page-ne60.true in
     record { value = both.0; page_after = both.1 }
 
-pub slot_row-code-requires : goal.slot_row-code-requires
-slot_row-code-requires c = c.requires
-
 pub returns-then-code-ne0 : goal.returns-then-code-ne0
 returns-then-code-ne0 c =
     let both = data-refused c.args.image.now c.args.at.slot c.args.at.block c.args.page.now c.if-page-ne60.false c.slot_row-code.ensures c.if-code-ne0.true in
@@ -28,9 +25,6 @@ pub slot_number-requires : goal.slot_number-requires
 slot_number-requires c =
     let named : NamesBlock c.args.image.now c.args.at.slot c.args.at.block = names-block c.args.image.now c.args.at.slot c.args.at.block c.slot_row-code.ensures c.if-code-ne0.false in
     let b = named.block_0_1 in (named.slot_most, omega (arith, b))
-
-pub read_page-requires : goal.read_page-requires
-read_page-requires c = c.requires.is_usable
 
 pub returns : goal.returns
 returns c =

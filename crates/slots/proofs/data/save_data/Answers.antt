@@ -13,9 +13,6 @@ returns-then-wrong_lengths c =
     let both = save-8 c.args.image.now c.args.at.slot c.args.at.block c.args.expected.now c.args.page.now (sym c.wrong_lengths.ensures ∙ c.if-wrong_lengths.true) in
     record { value = both.0; image_after = both.1 }
 
-pub slot_row-code-requires : goal.slot_row-code-requires
-slot_row-code-requires c = c.requires
-
 pub returns-then-code-ne0 : goal.returns-then-code-ne0
 returns-then-code-ne0 c =
     let both = save-refused c.args.image.now c.args.at.slot c.args.at.block c.args.expected.now c.args.page.now (sym c.wrong_lengths.ensures ∙ c.if-wrong_lengths.false)
@@ -31,9 +28,6 @@ pub slot_number-number-requires : goal.slot_number-number-requires
 slot_number-number-requires c =
     let named : NamesBlock c.args.image.now c.args.at.slot c.args.at.block = names-block c.args.image.now c.args.at.slot c.args.at.block c.slot_row-code.ensures c.if-code-ne0.false in
     let b = named.block_0_1 in (named.slot_most, omega (arith, b))
-
-pub save_page-requires : goal.save_page-requires
-save_page-requires c = c.requires.is_usable
 
 pub returns : goal.returns
 returns c =

@@ -7,9 +7,6 @@ use Rattle.slots.proofs.data.slot_row.Goals as goal
 pub returns-then-at-gt99 : goal.returns-then-at-gt99
 returns-then-at-gt99 c = past-99 c.args.image.now c.args.at.slot c.args.at.block c.if-at-gt99.true
 
-pub valid_slot-requires : goal.valid_slot-requires
-valid_slot-requires c = record { slot_usable = c.requires; slot_bound = (c.if-at-gt99.false, refl) }
-
 pub returns-then-not-valid_slot : goal.returns-then-not-valid_slot
 returns-then-not-valid_slot c = not_valid c.args.image.now c.args.at.slot c.args.at.block c.if-at-gt99.false (sym c.valid_slot.ensures ∙ c.if-not-valid_slot.true)
 

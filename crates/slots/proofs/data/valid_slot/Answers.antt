@@ -32,10 +32,6 @@ returns-then-read_page-ne0-2 c =
     second-missing c.args.image.now c.args.slot n.ensures.0
     (page-missing c.args.image.now n.result _ (in_range c.requires.slot_usable n.ensures.1) (behind c.args.header.now c.requires.slot_bound.1 _ c.read_page.auto.page) c.read_page-2.ensures.value c.if-read_page-ne0-2.true)
 
-pub right_header-requires : goal.right_header-requires
-right_header-requires c =
-    both-120 c.args.header.now c.read_page.new.page c.requires.slot_bound.1 (left-60 c.args.header.now c.requires.slot_bound.1 _ c.read_page.auto.page) c.read_page-2.new.page (c.read_page-2.auto.page ∙ (behind c.args.header.now c.requires.slot_bound.1 _ c.read_page.auto.page))
-
 pub returns : goal.returns
 returns c =
     let n = c.slot_number in

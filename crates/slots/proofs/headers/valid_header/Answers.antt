@@ -16,12 +16,6 @@ returns-then-l-eq0 c =
     let both = no_second c.args.image.now c.args.k c.args.l _ c.if-l-eq0.true in
     record { value = both.0; l_value = both.1 }
 
-pub block_at-first-requires : goal.block_at-first-requires
-block_at-first-requires c = record { has_measures = c.requires.has_measures; k_bound = c.requires.k_bound.0 }
-
-pub block_at-second-requires : goal.block_at-second-requires
-block_at-second-requires c = record { has_measures = c.requires.has_measures; k_bound = c.requires.k_bound.1 }
-
 pub returns : goal.returns
 returns c =
     let pages : _ ≡ payload (block_at c.args.image.now c.args.k) ++ payload (block_at c.args.image.now c.args.l) =

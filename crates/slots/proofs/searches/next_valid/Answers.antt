@@ -10,12 +10,6 @@ find_places-requires c = record { usable = c.requires.is_usable; size_in_bounds 
 pub loop-slot-init : goal.loop-slot-init
 loop-slot-init c = (next-first _ _, refl)
 
-pub slice_bounds-slot_header-end : goal.slice_bounds-slot_header-end
-slice_bounds-slot_header-end c = sym c.find_places.ensures.same_length
-
-pub slice_bounds-slot_header-end-in-loop-slot : goal.slice_bounds-slot_header-end-in-loop-slot
-slice_bounds-slot_header-end-in-loop-slot c = sym c.loop-slot.invariant.1
-
 pub slot_header-requires : goal.slot_header-requires
 slot_header-requires c =
     let placed : SlotPlaces c.args.image.now c.args.log.m.size c.find_places.new.places = slot-places c.requires refl c.find_places.ensures in

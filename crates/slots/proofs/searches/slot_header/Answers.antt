@@ -7,18 +7,6 @@ use Rattle.flash_model.specs.Slots.{valid_slot}
 use Rattle.slots.proofs.HeaderLaws.{Told, placed-high, header-placed}
 use Rattle.slots.proofs.searches.slot_header.Goals as goal
 
-pub slot_number-requires : goal.slot_number-requires
-slot_number-requires c = (omega (arith, c.requires.slot_bound.0), omega arith)
-
-pub bounds-places-slot_number : goal.bounds-places-slot_number
-bounds-places-slot_number c = omega (arith, c.slot_number.ensures.1, c.requires.slot_places.long)
-
-pub slot_number-requires-2 : goal.slot_number-requires-2
-slot_number-requires-2 c = (omega (arith, c.requires.slot_bound.0), omega arith)
-
-pub bounds-places-slot_number-2 : goal.bounds-places-slot_number-2
-bounds-places-slot_number-2 c = omega (arith, c.slot_number-2.ensures.1, c.requires.slot_places.long)
-
 pub valid_header-requires : goal.valid_header-requires
 valid_header-requires c =
     let p = c.requires.slot_places in

@@ -39,26 +39,11 @@ returns-then-second-ne60 c =
     let both = second-8 _ _ _ c.if-first-ne60.false c.if-second-ne60.true in
     record { value = both.0; image_after = both.1 }
 
-pub join_pages-requires : goal.join_pages-requires
-join_pages-requires c = (c.if-first-ne60.false, c.if-second-ne60.false, refl)
-
-pub slice_bounds-right_header-end : goal.slice_bounds-right_header-end
-slice_bounds-right_header-end c = sym c.join_pages.auto.header
-
-pub right_header-requires : goal.right_header-requires
-right_header-requires c = c.join_pages.auto.header
-
 pub returns-then-not-right_header : goal.returns-then-not-right_header
 returns-then-not-right_header c =
     let wrong = tested c.args.image.now c.args.first.now c.args.second.now _ c.join_pages.ensures c.right_header.ensures false c.if-not-right_header.true in
     let both = claim-41 _ _ _ c.if-first-ne60.false c.if-second-ne60.false wrong in
     record { value = both.0; image_after = both.1 }
-
-pub slice_bounds-search-end : goal.slice_bounds-search-end
-slice_bounds-search-end c = omega (arith, c.join_pages.auto.header)
-
-pub search-requires : goal.search-requires
-search-requires c = c.requires
 
 pub slot_number-requires : goal.slot_number-requires
 slot_number-requires c = (free-most _ _ (freed c.args.image.now c.args.first.now c.args.second.now _ c.join_pages.ensures c.search.ensures c.in-Free.is).1, omega arith)

@@ -17,11 +17,6 @@ read_page-code-requires c =
     let past : PastOpening c.args.image.now 3 c.in-Ready.log = past-opening _ _ _ (sym c.«open».ensures ∙ c.in-Ready.is) in
     past.is_usable
 
-pub slice_bounds-save_page-end : goal.slice_bounds-save_page-end
-slice_bounds-save_page-end c =
-    let left-60 : length c.read_page-code.new.page ≡ 60 = c.read_page-code.auto.page in
-    elim c.if-code-eq0.branch [ then-code-eq0 w ↦ omega (arith, w.length-is, left-60) | else-code-eq0 w ↦ omega (arith, w.length-is) ]
-
 pub save_page-requires : goal.save_page-requires
 save_page-requires c =
     let past : PastOpening c.args.image.now 3 c.in-Ready.log = past-opening _ _ _ (sym c.«open».ensures ∙ c.in-Ready.is) in
