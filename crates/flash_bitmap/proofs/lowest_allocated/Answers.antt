@@ -24,9 +24,6 @@ bounds-image-bit_byte c =
     let is-user : c.args.from ≤ capacity c.args.m.size = omega (arith, c.if-end-from.false, c.first_bitmap-end.ensures, (measures-known c.requires.has_measures).first_bitmap_lem) in
     at-inside c.args.from c.requires.has_measures c.bit_byte.ensures c.requires.le_from is-user
 
-pub lowest_in_byte-requires : goal.lowest_in_byte-requires
-lowest_in_byte-requires c = (omega (arith, c.if-rest-ne0.true), omega (arith, c.if-end-from.false))
-
 pub returns-then-rest-ne0 : goal.returns-then-rest-ne0
 returns-then-rest-ne0 c =
     c.lowest_in_byte.ensures

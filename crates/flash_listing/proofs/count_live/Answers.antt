@@ -1,13 +1,13 @@
 use Prim.Native.Nat.{◌≤◌}
-use mathlib.Core.Path.{◌≡◌, refl, sym, ap, ◌∙◌}
+use mathlib.Core.Path.{◌≡◌, refl, ap, ◌∙◌}
 use native.Mathlib.Omega.{arith}
 use native.Mathlib.Nat.{zero-add}
 use lib.ListN.{length}
 use Rattle.flash_model.proofs.MeasureLaws.{capacity-most}
-use Rattle.flash_partition.proofs.UsableLaws.{usable-legal, usable-measured, count_most}
+use Rattle.flash_partition.proofs.UsableLaws.{usable-legal}
 use Rattle.flash_listing.proofs.NoMarksLaws.{no_marks, none_marked}
 use Rattle.flash_listing.proofs.MarkLaws.{pass-first}
-use Rattle.flash_listing.proofs.ListedLaws.{none_left, stops-lower}
+use Rattle.flash_listing.proofs.ListedLaws.{none_left}
 use Rattle.flash_listing.proofs.HolderLaws.{kept-live}
 use Rattle.flash_listing.proofs.count_live.Goals as goal
 
@@ -19,28 +19,6 @@ loop-k-init c =
     let s = c.args.log.m.size in
     let long : c.capacity-end.result ≤ length no_marks = omega (arith, c.capacity-end.ensures, capacity-most s (usable-legal c.requires)) in
     (omega arith, refl, pass-first no_marks c.capacity-end.result c.requires c.capacity-end.ensures long, zero-add _ ∙ kept-live c.requires no_marks none_marked)
-
-pub slice_bounds-count_run-end : goal.slice_bounds-count_run-end
-slice_bounds-count_run-end c = sym c.loop-k.invariant.1
-
-pub count_run-run-requires : goal.count_run-run-requires
-count_run-run-requires c = c.loop-k.invariant.2
-
-pub overflow_add-count : goal.overflow_add-count
-overflow_add-count c =
-    let u = c.requires in
-    omega (arith, c.count_run-run.ensures.at_bound, c.loop-k.invariant.0, count_most u, (usable-measured u).two_bytes)
-
-pub slice_bounds-pass_known-end : goal.slice_bounds-pass_known-end
-slice_bounds-pass_known-end c =
-    let same-marks : length c.count_run-run.new.marks ≡ length no_marks = c.count_run-run.auto.marks ∙ c.loop-k.invariant.1 in
-    sym same-marks
-
-pub pass_known-k-requires : goal.pass_known-k-requires
-pass_known-k-requires c = c.count_run-run.ensures.stops_at.pass_at
-
-pub loop-k-smaller : goal.loop-k-smaller
-loop-k-smaller c = stops-lower c.loop-k-test.true c.count_run-run.ensures.stops_at c.pass_known-k.ensures.stops_at
 
 pub loop-k-preserved : goal.loop-k-preserved
 loop-k-preserved c =

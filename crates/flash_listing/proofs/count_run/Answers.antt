@@ -1,5 +1,5 @@
 use Prim.Native.Nat.{ℕ, ◌+◌}
-use mathlib.Core.Path.{◌≡◌, refl, sym, subst, ◌∙◌}
+use mathlib.Core.Path.{◌≡◌, sym, subst, ◌∙◌}
 use mathlib.Core.Bool.{false}
 use native.Mathlib.Omega.{arith}
 use lib.ListN.{length}
@@ -8,17 +8,6 @@ use Rattle.flash_listing.specs.Passing.{StopsAt}
 use Rattle.flash_listing.proofs.MarkLaws.{new-below}
 use Rattle.flash_listing.proofs.ListedLaws.{marked_next, marked-counted, stops-here, stops-last}
 use Rattle.flash_listing.proofs.count_run.Goals as goal
-
-pub loop-k-init : goal.loop-k-init
-loop-k-init c = (omega arith, refl, c.requires, omega arith)
-
-pub block_at-part-requires : goal.block_at-part-requires
-block_at-part-requires c =
-    let p = c.loop-k.invariant.2 in
-    record { has_measures = p.has_measures; k_bound = omega (arith, p.not_past_end, p.end_is) }
-
-pub is_new-requires : goal.is_new-requires
-is_new-requires c = (c.block_at-part.ensures.1, c.loop-k.invariant.2.long)
 
 pub returns-then-not-is_new : goal.returns-then-not-is_new
 returns-then-not-is_new c =
@@ -31,9 +20,6 @@ pub mark_number-count-requires : goal.mark_number-count-requires
 mark_number-count-requires c =
     let below = new-below _ _ _ (sym c.is_new.ensures ∙ c.if-not-is_new.false) in
     (c.block_at-part.ensures.1, omega (arith, below, c.loop-k.invariant.2.long))
-
-pub overflow_add-count : goal.overflow_add-count
-overflow_add-count c = omega (arith, c.mark_number-count.ensures.value.1, c.loop-k-test.true, c.loop-k.invariant.0, c.ranges)
 
 pub loop-k-preserved : goal.loop-k-preserved
 loop-k-preserved c =

@@ -4,7 +4,7 @@ use Rattle.flash_partition.proofs.UsableLaws.{usable-legal, count_most}
 use Rattle.flash_listing.specs.Passing.{left_and_listed}
 use Rattle.flash_listing.proofs.MarkLaws.{pass-first}
 use Rattle.flash_listing.proofs.LeftLaws.{added_none, added_then, marks-after, grown-none, grown-then}
-use Rattle.flash_listing.proofs.ListedLaws.{listed-first, listed-passed, listed-all, pass-end, pass-capacity, stops_end, stops-lower}
+use Rattle.flash_listing.proofs.ListedLaws.{listed-first, listed-passed, listed-all, pass-capacity}
 use Rattle.flash_listing.proofs.list_kept.Goals as goal
 
 pub capacity-end-requires : goal.capacity-end-requires
@@ -24,12 +24,6 @@ loop-k-init c =
 
 pub list_run-run-requires : goal.list_run-run-requires
 list_run-run-requires c = record { pass_at = pass-capacity c.loop-k.invariant.3; at_in_bounds = omega (arith, c.loop-k.invariant.0, c.loop-k.invariant.2, count_most c.requires.usable, c.requires.size_in_bounds.1) }
-
-pub pass_known-k-requires : goal.pass_known-k-requires
-pass_known-k-requires c = pass-end c.capacity-end.ensures c.list_run-run.ensures.stops_at.pass_at
-
-pub loop-k-smaller : goal.loop-k-smaller
-loop-k-smaller c = stops-lower c.loop-k-test.true c.list_run-run.ensures.stops_at (stops_end c.pass_known-k.ensures.stops_at)
 
 pub loop-k-preserved : goal.loop-k-preserved
 loop-k-preserved c =

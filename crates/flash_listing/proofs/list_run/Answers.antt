@@ -1,24 +1,13 @@
-use mathlib.Core.Path.{◌≡◌, refl, sym, subst, ◌∙◌}
+use mathlib.Core.Path.{◌≡◌, sym, subst, ◌∙◌}
 use mathlib.Core.Bool.{false}
 use native.Mathlib.Omega.{arith}
 use lib.ListN.{length-set}
 use Rattle.flash_model.proofs.MeasureLaws.{measures-of}
 use Rattle.flash_listing.specs.Passing.{StopsAt}
 use Rattle.flash_listing.proofs.MarkLaws.{new-below}
-use Rattle.flash_listing.proofs.LeftLaws.{added_none, added_then, grown-none, grown-stored, grown-then}
-use Rattle.flash_listing.proofs.ListedLaws.{marked_next, marked-listed, stops-here, stops-last, pass-end, stops_end}
+use Rattle.flash_listing.proofs.LeftLaws.{added_then, grown-stored, grown-then}
+use Rattle.flash_listing.proofs.ListedLaws.{marked_next, marked-listed, stops-here, stops-last, stops_end}
 use Rattle.flash_listing.proofs.list_run.Goals as goal
-
-pub capacity-end-requires : goal.capacity-end-requires
-capacity-end-requires c = c.requires.pass_at.has_measures.is_legal
-
-pub loop-k-init : goal.loop-k-init
-loop-k-init c = (omega arith, omega arith, refl, refl, pass-end c.capacity-end.ensures c.requires.pass_at, refl, added_none _ _, grown-none _ _)
-
-pub block_at-part-requires : goal.block_at-part-requires
-block_at-part-requires c =
-    let p = c.loop-k.invariant.4 in
-    record { has_measures = p.has_measures; k_bound = omega (arith, p.not_past_end, p.end_is) }
 
 pub returns-then-not-is_new : goal.returns-then-not-is_new
 returns-then-not-is_new c =

@@ -1,7 +1,7 @@
 use Prim.Native.Nat.{◌+◌}
 use native.Mathlib.Omega.{arith}
 use Rattle.flash_partition.proofs.UsableLaws.{usable-legal, usable-has, usable-measured, count_most}
-use Rattle.flash_listing.proofs.NextLaws.{BestSoFar, best-first, best-next, next_past, next_start, next_is, next-none}
+use Rattle.flash_listing.proofs.NextLaws.{BestSoFar, best-next, next_past, next_start, next_is, next-none}
 use Rattle.flash_listing.proofs.next_number.Goals as goal
 
 pub capacity-end-requires : goal.capacity-end-requires
@@ -10,14 +10,8 @@ capacity-end-requires c = usable-legal c.requires
 pub returns-then-end-start : goal.returns-then-end-start
 returns-then-end-start c = next_past c.requires c.capacity-end.result c.capacity-end.ensures c.args.start c.if-end-start.true
 
-pub loop-k-init : goal.loop-k-init
-loop-k-init c = (omega arith, omega arith, best-first _ _ _)
-
 pub block_at-requires : goal.block_at-requires
 block_at-requires c = let u = c.requires in record { has_measures = usable-has u; k_bound = omega (arith, c.loop-k-test.true, count_most u) }
-
-pub lower-best-requires : goal.lower-best-requires
-lower-best-requires c = c.block_at.ensures.1
 
 pub returns-then-best-start : goal.returns-then-best-start
 returns-then-best-start c =
@@ -30,9 +24,6 @@ pub overflow_add-k : goal.overflow_add-k
 overflow_add-k c =
     let u = c.requires in
     omega (arith, c.loop-k-test.true, count_most u, (usable-measured u).two_bytes)
-
-pub loop-k-smaller : goal.loop-k-smaller
-loop-k-smaller c = omega (arith, c.loop-k-test.true)
 
 pub loop-k-preserved : goal.loop-k-preserved
 loop-k-preserved c =

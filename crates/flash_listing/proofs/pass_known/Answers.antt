@@ -1,22 +1,11 @@
 use Prim.Native.Nat.{ℕ}
-use mathlib.Core.Path.{◌≡◌, refl, sym, subst, ◌∙◌}
+use mathlib.Core.Path.{◌≡◌, sym, subst, ◌∙◌}
 use mathlib.Core.Bool.{true}
 use native.Mathlib.Omega.{arith}
 use Rattle.flash_listing.specs.BlockTests.{kept_blocks}
 use Rattle.flash_listing.specs.Passing.{StopsAt}
 use Rattle.flash_listing.proofs.ListedLaws.{passed-next, stops-here, stops-last}
 use Rattle.flash_listing.proofs.pass_known.Goals as goal
-
-pub loop-k-init : goal.loop-k-init
-loop-k-init c = (omega arith, c.requires, refl)
-
-pub block_at-requires : goal.block_at-requires
-block_at-requires c =
-    let p = c.loop-k.invariant.1 in
-    record { has_measures = p.has_measures; k_bound = omega (arith, p.not_past_end, p.end_is) }
-
-pub is_new-requires : goal.is_new-requires
-is_new-requires c = (c.block_at.ensures.1, c.loop-k.invariant.1.long)
 
 pub returns-then-is_new : goal.returns-then-is_new
 returns-then-is_new c =

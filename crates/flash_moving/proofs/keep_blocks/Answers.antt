@@ -1,6 +1,4 @@
-use Prim.Native.Nat.{◌-◌}
-use native.Mathlib.Omega.{arith}
-use Rattle.flash_moving.proofs.ConservedLaws.{conserved-start, next_down, next_fits, conserved-next, all_moved}
+use Rattle.flash_moving.proofs.ConservedLaws.{conserved-next, all_moved}
 use Rattle.flash_moving.proofs.keep_blocks.Goals as goal
 
 pub loop-to-preserved : goal.loop-to-preserved

@@ -1,13 +1,10 @@
 use Prim.Native.Nat.{◌*◌}
-use mathlib.Core.Path.{◌≡◌, refl, sym}
-use mathlib.Core.List.{[]}
+use mathlib.Core.Path.{◌≡◌, sym}
 use native.Mathlib.Omega.{arith}
 use lib.ListN.{length-set}
-use lib.Seq.{paste-zero}
 use Rattle.flash_model.specs.Partition.{block_at}
 use Rattle.flash_model.specs.Update.{with_block}
 use Rattle.flash_moving.proofs.MoveLaws.{block-itself, move_step}
-use borrow.Author.Rules.{rules}
 use Rattle.flash_moving.proofs.move_block.Goals as goal
 
 pub returns-then-from-to : goal.returns-then-from-to

@@ -16,9 +16,6 @@ returns-then-page-ne60 c =
     let both = read-8 c.requires _ _ (sym c.legal_number.ensures ∙ c.if-not-legal_number.false) c.if-page-ne60.true in
     record { value = both.0; page_after = both.1 }
 
-pub find-requires : goal.find-requires
-find-requires c = record { usable = c.requires; number_value = sym c.legal_number.ensures ∙ c.if-not-legal_number.false }
-
 pub returns-in_default : goal.returns-in_default
 returns-in_default c =
     let both = read-7 c.requires _ _ (sym c.legal_number.ensures ∙ c.if-not-legal_number.false) c.if-page-ne60.false (contents-none _ _ (sym c.find.ensures ∙ c.in_default.is)) in

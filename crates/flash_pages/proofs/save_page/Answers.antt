@@ -18,9 +18,6 @@ returns-then-wrong_lengths c =
     let both = save-8 c.requires _ _ _ (sym c.legal_number.ensures ∙ c.if-not-legal_number.false) (sym c.wrong_lengths.ensures ∙ c.if-wrong_lengths.true) in
     record { value = both.0; image_after = both.1 }
 
-pub changed_row-code-requires : goal.changed_row-code-requires
-changed_row-code-requires c = record { usable = c.requires; number_value = sym c.legal_number.ensures ∙ c.if-not-legal_number.false }
-
 pub returns-then-code-ne0 : goal.returns-then-code-ne0
 returns-then-code-ne0 c =
     let both = save-9 c.requires _ _ _ (sym c.legal_number.ensures ∙ c.if-not-legal_number.false) (sym c.wrong_lengths.ensures ∙ c.if-wrong_lengths.false) _ c.changed_row-code.ensures c.if-code-ne0.true in

@@ -7,9 +7,6 @@ use Rattle.flash_pages.specs.Rows.{can_append}
 use Rattle.flash_pages.proofs.StoreRules.{free-behind, appends, written-append, written-compact}
 use Rattle.flash_pages.proofs.write_page.Goals as goal
 
-pub can_append-requires : goal.can_append-requires
-can_append-requires c = c.requires.usable
-
 pub overflow_add-log : goal.overflow_add-log
 overflow_add-log c =
     let can : true ≡ can_append (append_block c.args.image.now) = sym c.if-can_append.true ∙ c.can_append.ensures in
@@ -26,9 +23,6 @@ pub returns-then-can_append : goal.returns-then-can_append
 returns-then-can_append c =
     let can : true ≡ can_append (append_block c.args.image.now) = sym c.if-can_append.true ∙ c.can_append.ensures in
     c.append.ensures ∙ written-append c.requires.usable can c.args.number _ c.args.page.now (omega arith)
-
-pub compact-requires : goal.compact-requires
-compact-requires c = c.requires
 
 pub returns : goal.returns
 returns c = c.compact.ensures ∙ written-compact c.requires.usable (sym c.if-can_append.false ∙ c.can_append.ensures) c.args.number c.args.page.now

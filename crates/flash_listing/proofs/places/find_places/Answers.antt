@@ -12,9 +12,6 @@ use Rattle.flash_listing.proofs.places.find_places.Goals as goal
 pub capacity-end-requires : goal.capacity-end-requires
 capacity-end-requires c = usable-legal c.requires.usable
 
-pub clear-requires : goal.clear-requires
-clear-requires c = omega (arith, c.capacity-end.ensures, c.requires.size_in_bounds)
-
 pub loop-k-init : goal.loop-k-init
 loop-k-init c =
     let end = c.capacity-end.result in
@@ -24,11 +21,6 @@ loop-k-init c =
       pass-first c.clear.new.places end c.requires.usable c.capacity-end.ensures (omega (arith, long, cleared-length end c.args.places.now c.clear.new.places long cleared)),
       none-placed c.args.image.now end c.args.places.now c.clear.new.places cleared,
     )
-
-pub block_at-requires : goal.block_at-requires
-block_at-requires c =
-    let p = c.loop-k.invariant.1 in
-    record { has_measures = p.has_measures; k_bound = omega (arith, p.not_past_end, p.end_is) }
 
 pub enter-requires : goal.enter-requires
 enter-requires c =

@@ -39,9 +39,6 @@ block_at-requires c =
 pub returns-then-right_checksum : goal.returns-then-right_checksum
 returns-then-right_checksum c = sym (c.loop-k.invariant.1 ∙ found c.highest_with_number-at.ensures c.block_at.ensures.0 c.right_checksum.ensures (omega (arith, c.if-at-eq0.false)) c.if-right_checksum.true)
 
-pub loop-k-smaller : goal.loop-k-smaller
-loop-k-smaller c = omega (arith, c.if-at-eq0.false, c.highest_with_number-at.ensures.below)
-
 pub loop-k-preserved : goal.loop-k-preserved
 loop-k-preserved c = (
   omega (arith, c.highest_with_number-at.ensures.below, c.loop-k.invariant.0),

@@ -5,9 +5,6 @@ use Rattle.flash_partition.specs.Search.{found_up_to}
 use Rattle.flash_partition.proofs.SearchLaws.{passed, has-number-test, other_number}
 use Rattle.flash_partition.proofs.blocks.highest_with_number.Goals as goal
 
-pub loop-k-init : goal.loop-k-init
-loop-k-init c = c.pass_eights-k.ensures
-
 pub returns-then-word-number : goal.returns-then-word-number
 returns-then-word-number c =
     let w = c.word in

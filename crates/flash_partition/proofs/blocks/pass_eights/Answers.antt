@@ -1,10 +1,7 @@
-use mathlib.Core.Path.{refl, sym, ◌∙◌}
+use mathlib.Core.Path.{sym, ◌∙◌}
 use native.Mathlib.Omega.{arith}
 use Rattle.flash_partition.proofs.SearchLaws.{none-numbered}
 use Rattle.flash_partition.proofs.blocks.pass_eights.Goals as goal
-
-pub loop-k-init : goal.loop-k-init
-loop-k-init c = (omega arith, refl)
 
 pub returns-then-any_of_eight : goal.returns-then-any_of_eight
 returns-then-any_of_eight c = c.loop-k.invariant

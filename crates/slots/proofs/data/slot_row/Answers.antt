@@ -1,4 +1,4 @@
-use mathlib.Core.Path.{◌≡◌, refl, sym, ◌∙◌}
+use mathlib.Core.Path.{◌≡◌, sym, ◌∙◌}
 use mathlib.Core.Bool.{true}
 use Rattle.flash_model.specs.Slots.{valid_slot}
 use Rattle.slots.proofs.DataLaws.{past-99, not_valid, other_block, data_block}

@@ -4,7 +4,7 @@ use mathlib.Core.List.{List, ◌++◌}
 use native.Mathlib.Omega.{arith}
 use lib.ListN.{length, take, drop, length-take}
 use Rattle.flash_model.specs.Slots.{right_header}
-use Rattle.slots.proofs.HeaderLaws.{joined-pages, back_60, both-120, first-missing, second-missing, both-valid}
+use Rattle.slots.proofs.HeaderLaws.{joined-pages, back_60, first-missing, second-missing, both-valid}
 use Rattle.slots.proofs.DataLaws.{page-there, page-missing, in_range}
 use Rattle.slots.proofs.data.valid_slot.Goals as goal
 

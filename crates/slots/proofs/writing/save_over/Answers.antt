@@ -1,6 +1,5 @@
 use mathlib.Core.Path.{◌≡◌, refl, sym, ◌∙◌}
 use mathlib.Core.Logic.{◌≢◌, ◌⊎◌, inl, inr}
-use native.Mathlib.Omega.{arith}
 use lib.ListN.{length}
 use Rattle.flash_partition.proofs.OpenedLaws.{PastOpening, opened-refused, past-opening}
 use Rattle.slots.proofs.ClaimLaws.{saved-over, stands}
