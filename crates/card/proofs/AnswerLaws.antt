@@ -2,7 +2,7 @@
 use Prim.Native.Nat.{ℕ, ◌<◌, ◌-◌}
 use mathlib.Core.Path.{◌≡◌, refl, ◌∙◌}
 use mathlib.Core.List.{List}
-use mathlib.Core.Option.{Option, some}
+use Rattle.std.specs.Prelude.{Option, Some}
 use native.Mathlib.Omega.{arith}
 use borrow.Author.Tests.{eq-eqb, ne_eqb}
 use lib.ListN.{length, replicate}
@@ -57,7 +57,7 @@ module _ (card : List ℕ) (v : Verdict) (e : v ≡ verdict_of card) where
         (d, w ∙ rw d)
 
 -- an entry that a listing found is in the directory
-pub used_below : (directory : List (List ℕ)) (start i : ℕ) → first_used directory start ≡ some i → i < 208
+pub used_below : (directory : List (List ℕ)) (start i : ℕ) → first_used directory start ≡ Some i → i < 208
 unfolding first_used
 used_below directory start i e =
     let l = lowest-some _ start (208 - start) i e in

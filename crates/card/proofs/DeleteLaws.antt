@@ -2,7 +2,7 @@
 use Prim.Native.Nat.{ℕ, ◌<◌}
 use mathlib.Core.Path.{◌≡◌, sym, ap, ◌∙◌}
 use mathlib.Core.List.{List}
-use mathlib.Core.Option.{none, some}
+use Rattle.std.specs.Prelude.{None, Some}
 use native.Mathlib.Omega.{arith}
 use lib.ListN.{length}
 use borrow.Author.Tests.{eq-eqb, ne_eqb}
@@ -44,11 +44,11 @@ module _ (card name : List ℕ) where
       by-33 r q n = refused r (past-check ∙ rw (ne_eqb (length name) 12 n) (sym q)) (λ y. omega (arith, ap (λ (w : Verdict). w.number) q, y))
 
       module _ (l : length name ≡ 12) where
-        pub by-31 : (r : Verdict) → r ≡ refused_at 31 Whole → entry_named (directory_of card) name ≡ none → DeletedAs r card
+        pub by-31 : (r : Verdict) → r ≡ refused_at 31 Whole → entry_named (directory_of card) name ≡ None → DeletedAs r card
         unfolding delete_rows
         by-31 r q n = refused r (past-check ∙ rw (eq-eqb (length name) 12 l, n) (sym q)) (λ y. omega (arith, ap (λ (w : Verdict). w.number) q, y))
 
-        pub removed : (i : ℕ) → entry_named (directory_of card) name ≡ some i → (r : Verdict) → r ≡ done → (after : List ℕ) → after ≡ without_file card i → DeletedAs r after
+        pub removed : (i : ℕ) → entry_named (directory_of card) name ≡ Some i → (r : Verdict) → r ≡ done → (after : List ℕ) → after ≡ without_file card i → DeletedAs r after
         unfolding delete_rows deleted
         removed i n r q after a =
             let d : delete_verdict card name ≡ done = past-check ∙ rw (eq-eqb (length name) 12 l, n) in

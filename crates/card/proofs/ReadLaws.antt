@@ -3,7 +3,7 @@ use Prim.Native.Nat.{ℕ, ◌+◌, ◌-◌, ◌*◌, ◌≤◌, ◌<◌}
 use mathlib.Core.Path.{◌≡◌, refl, ap, ◌∙◌}
 use mathlib.Core.Bool.{true, false, or-true}
 use mathlib.Core.List.{List}
-use mathlib.Core.Option.{none, some}
+use Rattle.std.specs.Prelude.{None, Some}
 use native.Mathlib.Omega.{arith}
 use native.Mathlib.Nat.{add-sub_cancel_left}
 use borrow.Author.Tests.{ne_eqb, le-leb, lt-leb}
@@ -24,7 +24,7 @@ use Rattle.card_chains.specs.Steps.{block_after}
 use Rattle.card_chains.proofs.StepLaws.{block-of-chain}
 
 -- an entry that a name found is in the directory, and used
-pub named-used : (card name : List ℕ) (i : ℕ) → entry_named (directory_of card) name ≡ some i → UsedEntry card i
+pub named-used : (card name : List ℕ) (i : ℕ) → entry_named (directory_of card) name ≡ Some i → UsedEntry card i
 unfolding entry_named is_named
 named-used card name i e =
     let l = lowest-some (λ j. is_named name (entry_at (directory_of card) j)) 0 208 i e in
@@ -51,12 +51,12 @@ module _ (card name : List ℕ) (index : ℕ) (buffer : List ℕ) where
   wrong-block r e n = refused 33 r refl e (rw (ne_eqb (length buffer) 512 n, or-true))
 
   module _ (n : length name ≡ 12) (l : length buffer ≡ 512) where
-    pub no_file : (r : Verdict) → r ≡ refused_at 31 Whole → entry_named directory name ≡ none → ReadAs r buffer
+    pub no_file : (r : Verdict) → r ≡ refused_at 31 Whole → entry_named directory name ≡ None → ReadAs r buffer
     unfolding read_rows
     no_file r e q = refused 31 r refl e (rw (n, l, q))
 
-    pub of_entry_lem : (i : ℕ) → entry_named directory name ≡ some i → (r : Verdict) → r ≡ index_row directory index (some i)
-        → (left : List ℕ) → left ≡ left_by r card index (some i) buffer → ReadAs r left
+    pub of_entry_lem : (i : ℕ) → entry_named directory name ≡ Some i → (r : Verdict) → r ≡ index_row directory index (Some i)
+        → (left : List ℕ) → left ≡ left_by r card index (Some i) buffer → ReadAs r left
     unfolding read_rows
     of_entry_lem i q r e left w = record { verdict_is = e ∙ rw (n, l, q); buffer_is = w ∙ rw q }
 
@@ -73,18 +73,18 @@ module _ (card : List ℕ) (rows : NoRowRefuses card) (i : ℕ) (u : UsedEntry c
   pub first_below : first_block s < 200
   first_below = (right-entry s used (rw es (rows.entries i u.in_directory))).0
 
-  chain-is : chain (table_of card) (size s) (first_block s) ≡ some (file_of (table_of card) s)
+  chain-is : chain (table_of card) (size s) (first_block s) ≡ Some (file_of (table_of card) s)
   chain-is = file-chain s used (table_of card) (rw es (rows.chains i u.in_directory))
 
   module _ (index : ℕ) (buffer : List ℕ) (r : Verdict) where
     pub past_end : r ≡ refused_at 32 Whole → size s ≤ index
-        → (r ≡ index_row (directory_of card) index (some i)) × (buffer ≡ left_by r card index (some i) buffer)
+        → (r ≡ index_row (directory_of card) index (Some i)) × (buffer ≡ left_by r card index (Some i) buffer)
     past_end e h = (e ∙ rw (← es, le-leb (size s) index h), rw e)
 
     -- b is the block that the steps lead to, and the buffer holds what was copied over it
     pub in_file : r ≡ refused_at 0 Whole → index < size s → (b : ℕ) → b ≡ block_after (table_of card) (first_block s) index → b < 200
         → (left : List ℕ) → left ≡ part card b
-        → (r ≡ index_row (directory_of card) index (some i)) × (left ≡ left_by r card index (some i) buffer)
+        → (r ≡ index_row (directory_of card) index (Some i)) × (left ≡ left_by r card index (Some i) buffer)
     unfolding file_block block_at card_length
     in_file e h b after low left w =
         let p : part card b ≡ take 512 (drop (b * 512) card) = ap (λ (k : ℕ). take k (drop (b * 512) card)) (add-sub_cancel_left (b * 512) 512) in

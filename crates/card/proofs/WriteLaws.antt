@@ -2,7 +2,7 @@
 use Prim.Native.Nat.{ℕ, ◌-◌, ◌≤◌, ◌<◌}
 use mathlib.Core.Path.{◌≡◌, sym, ap, ◌∙◌}
 use mathlib.Core.List.{List}
-use mathlib.Core.Option.{some}
+use Rattle.std.specs.Prelude.{Some}
 use native.Mathlib.Omega.{arith}
 use lib.ListN.{length, get_or, take}
 use lib.Seq.{length-take-le, take-take, get_or-take}
@@ -81,7 +81,7 @@ module _ (card : List ℕ) (f : NewFile) (offset : ℕ) where
       first-is h = sym (get_or-take (blocks_of f) free 0 0 h) ∙ ap (λ (l : List ℕ). get_or l 0 0) taken-are
 
       -- the blocks are written, then the entry
-      pub wrote : (i : ℕ) → lowest_unused (directory_of card) ≡ some i → (middle : List ℕ) → middle ≡ with_blocks card (taken_blocks card f) f.content
+      pub wrote : (i : ℕ) → lowest_unused (directory_of card) ≡ Some i → (middle : List ℕ) → middle ≡ with_blocks card (taken_blocks card f) f.content
           → (after : List ℕ) → after ≡ with_part middle (entry_place i) (new_entry 0x33 f offset (get_or (taken_blocks card f) 0 0)) → (r : Verdict) → r ≡ done → WroteAs r after
       unfolding written with_file
       wrote i u middle m after a r e =

@@ -5,7 +5,7 @@
 // Every call begins by opening the card (`card_check::open`) and answers a verdict: number 0 when it is done, else the refusal's number
 // and place, and then nothing has changed. No call asks anything of what it is lent.
 ghost use Rattle.std.specs.Prelude.{◌≡◌, ℕ, length};
-ghost use Rattle.std.proofs.Math.Option.{some};
+ghost use Rattle.std.specs.Prelude.{Some};
 ghost use Rattle.card_model.specs.Layout.{card_length, directory_of};
 ghost use Rattle.card_model.specs.Calls.{check_of, not_checked, not_listed, listed_entry, list_of, index_row, read_verdict, left_by, read_buffer};
 ghost use Rattle.card_model.specs.Sound.{NoRowRefuses, UsedEntry};
@@ -109,8 +109,8 @@ pub fn list(card: &[u8], from: usize) -> Listing
 // Refusal 32 of a read from the file of entry i, or its block.
 fn read_block(card: &[u8], i: usize, index: usize, block: &mut [u8]) -> Verdict
     requires { NoRowRefuses card.now × UsedEntry card.now i × (length block.old ≡ 512) }
-    ensures value { result ≡ index_row (directory_of card.now) index (some i) }
-    ensures block_after { block.new ≡ left_by result card.now index (some i) block.old }
+    ensures value { result ≡ index_row (directory_of card.now) index (Some i) }
+    ensures block_after { block.new ≡ left_by result card.now index (Some i) block.old }
 {
     let found = entry::entry_at(card, i);
     if entry::size(found) <= index {

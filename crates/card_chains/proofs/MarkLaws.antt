@@ -3,7 +3,7 @@ use Prim.Native.Nat.{ℕ, zero, suc, ◌+◌, ◌-◌, ◌≤◌, ◌<◌}
 use mathlib.Core.Path.{◌≡◌, refl, sym, ap, ◌∙◌}
 use mathlib.Core.Bool.{Bool, true, false, not, cond, ◌&&◌, ◌||◌, or_comm, and-true, false≢true}
 use mathlib.Core.List.{List, [], ◌∷◌, append-nil}
-use mathlib.Core.Option.{Option, none, some}
+use Rattle.std.specs.Prelude.{Option, None, Some}
 use native.Mathlib.Omega.{arith}
 use native.Mathlib.Numerals.{add-one}
 use lib.Dec.{eqb}
@@ -31,13 +31,13 @@ module _ (table entry : List ℕ) (u : is_used entry ≡ true) where
   chain-bad = rw u
 
   module _ (e : bad_chain table entry ≡ false) where
-    chain-file : chain_of table entry ≡ some (file_of table entry)
+    chain-file : chain_of table entry ≡ Some (file_of table entry)
     unfolding chain_of
     chain-file = file-chain entry u table e
 
 answer-broken : (o : Option (List ℕ)) (marks : List ℕ) → is_broken (answer o marks) ≡ not (is_some o)
-answer-broken none marks = refl
-answer-broken (some bs) marks = go (any_of (is_marked marks) bs)
+answer-broken None marks = refl
+answer-broken (Some bs) marks = go (any_of (is_marked marks) bs)
   where
     go : (t : Bool) → is_broken (outcome t) ≡ false
     go true = refl
@@ -94,7 +94,7 @@ module _ (table : List ℕ) (directory : List (List ℕ)) where
     walk-broken = ap is_broken w.answers ∙ answer-broken (chain_of table (entry_at directory i)) marks ∙ sym (chain-bad table (entry_at directory i) u)
 
     module _ (sound : is_broken found ≡ false) where
-      there : chain_of table (entry_at directory i) ≡ some (file_of table (entry_at directory i))
+      there : chain_of table (entry_at directory i) ≡ Some (file_of table (entry_at directory i))
       there = chain-file table (entry_at directory i) u (sym walk-broken ∙ sound)
 
       pub walk-lengths : Lengths table marks'
@@ -170,8 +170,8 @@ unfolding is_in_use
 in_use {table} {marks} l b m = go (chain table (get_or marks b 0) b) refl (l.each b m)
   where
     go : (o : Option (List ℕ)) → chain table (get_or marks b 0) b ≡ o → is_some o ≡ true → not (free_or_damaged (link_at table b)) ≡ true
-    go none e s = absurd (false≢true s)
-    go (some bs) e s = rw (all-has (λ x. free_or_damaged (link_at table x) ≡ false) bs b (chain-used table _ b bs e) (rw (chain_head table _ b bs e, eq-eqb b b refl)))
+    go None e s = absurd (false≢true s)
+    go (Some bs) e s = rw (all-has (λ x. free_or_damaged (link_at table x) ≡ false) bs b (chain-used table _ b bs e) (rw (chain_head table _ b bs e, eq-eqb b b refl)))
 
 counts-add : (p q r : ℕ → Bool) → ((i : ℕ) → one (p i) + one (q i) ≡ one (r i)) → (k n : ℕ) → count p k n + count q k n ≡ count r k n
 counts-add p q r e k zero = refl

@@ -2,7 +2,7 @@
 use Prim.Native.Nat.{ℕ, zero, suc, ◌-◌, ◌<◌}
 use mathlib.Core.Path.{◌≡◌, refl, sym, ◌∙◌}
 use mathlib.Core.List.{List}
-use mathlib.Core.Option.{some}
+use Rattle.std.specs.Prelude.{Some}
 use native.Mathlib.Omega.{arith}
 use lib.ListN.{get_or}
 use Rattle.card_model.specs.declared.Link.{Link}
@@ -38,7 +38,7 @@ module _ (table : List ℕ) (b steps : ℕ) where
         go (suc k) = rw (← q, told, s) (go k)
 
 -- on a chain that is longer than the steps, they lead to its block at this index
-pub block-of-chain : (table : List ℕ) (size b : ℕ) (blocks : List ℕ) → chain table size b ≡ some blocks → (steps : ℕ) → steps < size
+pub block-of-chain : (table : List ℕ) (size b : ℕ) (blocks : List ℕ) → chain table size b ≡ Some blocks → (steps : ℕ) → steps < size
     → block_after table b steps ≡ get_or blocks steps 0
 unfolding block_after
 block-of-chain table size b blocks e steps h = go (chain-links table size b blocks e) steps h

@@ -3,7 +3,7 @@ use Prim.Native.Nat.{ℕ, zero, suc, ◌-◌, ◌≤◌, ◌<◌}
 use mathlib.Core.Path.{◌≡◌, refl, sym, ap, ◌∙◌}
 use mathlib.Core.Bool.{Bool, true, false, cond, ◌||◌, or-false, false≢true}
 use mathlib.Core.List.{List, [], ◌∷◌}
-use mathlib.Core.Option.{Option, none, some, map}
+use Rattle.std.specs.Prelude.{Option, None, Some, option_map}
 use native.Mathlib.Omega.{arith}
 use lib.Dec.{eqb}
 use lib.ListN.{length, get_or, set, length-set}
@@ -25,7 +25,7 @@ pub step-below : (table : List ℕ) (b n : ℕ) → link_at table b ≡ Next n �
 unfolding link_at
 step-below table b n told = next-below _ n told
 
-pub chain-none : (table : List ℕ) (left b : ℕ) → left ≡ 0 → chain table left b ≡ none
+pub chain-none : (table : List ℕ) (left b : ℕ) → left ≡ 0 → chain table left b ≡ None
 unfolding chain
 chain-none table left b q = rw q
 
@@ -41,14 +41,14 @@ chain-step table (suc left) b h q told =
 
 module _ (table : List ℕ) where
   -- where a chain starts tells how long it is
-  one_length : (m n b : ℕ) (cs : List ℕ) → is_some (chain table m b) ≡ true → chain table n b ≡ some cs → m ≡ n
+  one_length : (m n b : ℕ) (cs : List ℕ) → is_some (chain table m b) ≡ true → chain table n b ≡ Some cs → m ≡ n
   one_length m n b cs p f = go (chain table m b) refl p
     where
       go : (o : Option (List ℕ)) → chain table m b ≡ o → is_some o ≡ true → m ≡ n
-      go none e p = absurd (false≢true p)
-      go (some bs) e p = links-same table (chain-links table m b bs e) (chain-links table n b cs f)
+      go None e p = absurd (false≢true p)
+      go (Some bs) e p = links-same table (chain-links table m b bs e) (chain-links table n b cs f)
 
-  pub walked-broken : {o : Option (List ℕ)} (marks marks' : List ℕ) → o ≡ none → Walked table o marks Broken marks'
+  pub walked-broken : {o : Option (List ℕ)} (marks marks' : List ℕ) → o ≡ None → Walked table o marks Broken marks'
   walked-broken marks marks' e = record {
     answers = rw e;
     are_lengths = λ s. absurd (false≢true (sym (ap is_some e) ∙ s));
@@ -69,16 +69,16 @@ module _ (table : List ℕ) where
         is-marked = rw (← m, ne_eqb mark 0 h)
 
         go : (o : Option (List ℕ)) → chain table left b ≡ o → (t : Bool) → eqb mark left ≡ t → Walked table o marks found marks
-        go none e true d =
+        go None e true d =
             let same : get_or marks b 0 ≡ left = sym m ∙ eqb-true mark left d in
             let s : is_some (chain table (get_or marks b 0) b) ≡ true = k.up_to_left b is-marked (omega arith) in
             absurd (false≢true (sym (ap is_some e) ∙ (rw same at s)))
-        go none e false d =
+        go None e false d =
             let f : found ≡ Broken = q ∙ rw d in
             rw f (walked-broken marks marks refl)
-        go (some bs) e false d =
+        go (Some bs) e false d =
             absurd (eqb-false mark left d (m ∙ one_length (get_or marks b 0) left b bs ((k.all_if_good (ap is_some e)).each b is-marked) e))
-        go (some bs) e true d =
+        go (Some bs) e true d =
             let meets : any_of (is_marked marks) bs ≡ true = rw (chain_head table left b bs e, is-marked) in record {
               answers = q ∙ rw (d, meets);
               are_lengths = λ s. k.all_if_good (ap is_some e);
@@ -100,13 +100,13 @@ module _ (table : List ℕ) where
       set-lengths : is_some (chain table left b) ≡ true → Lengths table (set marks b left)
       set-lengths s = record { long = set-many; each = set-each marks b left long (λ x m. is_some (chain table m x) ≡ true) s (k.all_if_good s).each }
 
-      pub walked-last : {found : Finding} → chain table left b ≡ cond (eqb (left - 1) 0) (some (b ∷ [])) none
+      pub walked-last : {found : Finding} → chain table left b ≡ cond (eqb (left - 1) 0) (Some (b ∷ [])) None
           → found ≡ cond (eqb left 1) (outcome false) Broken → Walked table (chain table left b) marks found (set marks b left)
       walked-last {found} e q = go (eqb left 1) refl
         where
           go : (t : Bool) → eqb left 1 ≡ t → Walked table (chain table left b) marks found (set marks b left)
           go true d =
-              let f : chain table left b ≡ some (b ∷ []) = e ∙ rw (eq-eqb (left - 1) 0 (omega (arith, eqb-true left 1 d))) in record {
+              let f : chain table left b ≡ Some (b ∷ []) = e ∙ rw (eq-eqb (left - 1) 0 (omega (arith, eqb-true left 1 d))) in record {
                 answers = q ∙ rw (d, f, unmarked);
                 are_lengths = set-lengths;
                 marked = λ bs g a x. let z : bs ≡ b ∷ [] = cc in marked-set marks b left long some_left x ∙ rw (z, or-false);
@@ -117,7 +117,7 @@ module _ (table : List ℕ) where
               rw g (walked-broken marks (set marks b left) (e ∙ rw f))
 
       module _ (n : ℕ) (told : link_at table b ≡ Next n) where
-        e : chain table left b ≡ map (λ (blocks : List ℕ). b ∷ blocks) (chain table (left - 1) n)
+        e : chain table left b ≡ option_map (λ (blocks : List ℕ). b ∷ blocks) (chain table (left - 1) n)
         unfolding chain_step
         e = chain-step table left b some_left refl told
 
@@ -130,9 +130,9 @@ module _ (table : List ℕ) where
           all_if_good = λ s. set-lengths (ap is_some e ∙ maps (chain table (left - 1) n) ∙ s);
         }
           where
-            maps : (o : Option (List ℕ)) → is_some (map (λ (blocks : List ℕ). b ∷ blocks) o) ≡ is_some o
-            maps none = refl
-            maps (some bs) = refl
+            maps : (o : Option (List ℕ)) → is_some (option_map (λ (blocks : List ℕ). b ∷ blocks) o) ≡ is_some o
+            maps None = refl
+            maps (Some bs) = refl
 
         -- what the walk from the next block asks
         pub next-asked : left ≤ 200 → ((n < 200) × (left - 1 ≤ 200)) × Walkable table (set marks b left) (left - 1) n
@@ -143,11 +143,11 @@ module _ (table : List ℕ) where
         walked_next {found} {marks'} w = go (chain table (left - 1) n) refl
           where
             go : (o : Option (List ℕ)) → chain table (left - 1) n ≡ o → Walked table (chain table left b) marks found marks'
-            go none f =
+            go None f =
                 let g : found ≡ Broken = w.answers ∙ rw f in
                 rw g (walked-broken marks marks' (e ∙ rw f))
-            go (some rest) f =
-                let whole : chain table left b ≡ some (b ∷ rest) = e ∙ rw f in
+            go (Some rest) f =
+                let whole : chain table left b ≡ Some (b ∷ rest) = e ∙ rw f in
                 let same = any_same (is_marked (set marks b left)) (is_marked marks) rest (others (chain-distinct table left b (b ∷ rest) whole).0) in record {
                   answers = w.answers ∙ rw (f, whole, same, unmarked);
                   are_lengths = λ s. w.are_lengths (ap is_some f);

@@ -1,7 +1,7 @@
 -- Marks of user blocks, and what a walk along a chain finds in them.
 -- Assumes nothing.
 use Rattle.std.specs.Prelude.{ℕ, ◌≤◌, ◌≡◌, Bool, true, false, not, cond, ◌||◌, List, eqb, length, get_or, replicate}
-use Rattle.std.proofs.Math.Option.{Option, none, some}
+use Rattle.std.specs.Prelude.{Option, None, Some}
 use Rattle.words.specs.Lists.{any_of, has, is_some}
 use Rattle.card_model.specs.Files.{chain}
 use Rattle.card_chains.specs.declared.walking.Finding.{Finding}
@@ -57,12 +57,12 @@ pub record Walkable (table marks : List ℕ) (left b : ℕ) : Type 0 where
 
 -- What a walk answers for a chain, or for none.
 abbrev pub answer : Option (List ℕ) → List ℕ → Finding
-answer none marks = Broken
-answer (some blocks) marks = outcome (any_of (is_marked marks) blocks)
+answer None marks = Broken
+answer (Some blocks) marks = outcome (any_of (is_marked marks) blocks)
 
 -- A walk's answer, and the marks that it leaves where the chain is there: where no block of it was marked before, those of its
 -- blocks too.
 pub record Walked (table : List ℕ) (blocks : Option (List ℕ)) (marks : List ℕ) (found : Finding) (marks' : List ℕ) : Type 0 where
   pub answers : found ≡ answer blocks marks
   pub are_lengths : is_some blocks ≡ true → Lengths table marks'
-  pub marked : (bs : List ℕ) → blocks ≡ some bs → any_of (is_marked marks) bs ≡ false → (b : ℕ) → is_marked marks' b ≡ (has b bs || is_marked marks b)
+  pub marked : (bs : List ℕ) → blocks ≡ Some bs → any_of (is_marked marks) bs ≡ false → (b : ℕ) → is_marked marks' b ≡ (has b bs || is_marked marks b)

@@ -3,7 +3,7 @@ use Prim.Native.Nat.{ℕ, ◌+◌, ◌-◌, ◌<◌}
 use mathlib.Core.Path.{◌≡◌, refl, sym, ap, ◌∙◌}
 use mathlib.Core.Bool.{true, false}
 use mathlib.Core.List.{List}
-use mathlib.Core.Option.{Option, none, some}
+use Rattle.std.specs.Prelude.{Option, None, Some}
 use native.Mathlib.Omega.{arith}
 use native.Mathlib.Nat.{add-sub_cancel_left}
 use lib.ListN.{length, take, drop}
@@ -39,15 +39,15 @@ unused-unnamed directory name i u = rw u
 
 -- ---- what a search answered
 
-pub found_some : (o : Option ℕ) (k : ℕ) → as_found o ≡ Hit k → o ≡ some k
-found_some none k e = let z : ◌≡◌ {A = ℕ} 0 1 = cc in absurd (omega arith)
-found_some (some i) k e =
+pub found_some : (o : Option ℕ) (k : ℕ) → as_found o ≡ Hit k → o ≡ Some k
+found_some None k e = let z : ◌≡◌ {A = ℕ} 0 1 = cc in absurd (omega arith)
+found_some (Some i) k e =
     let d : i ≡ k = cc in
-    ap (λ (j : ℕ). some j) d
+    ap (λ (j : ℕ). Some j) d
 
-pub found_none : (o : Option ℕ) → as_found o ≡ Nothing → o ≡ none
-found_none none e = refl
-found_none (some i) e = let z : ◌≡◌ {A = ℕ} 0 1 = cc in absurd (omega arith)
+pub found_none : (o : Option ℕ) → as_found o ≡ Nothing → o ≡ None
+found_none None e = refl
+found_none (Some i) e = let z : ◌≡◌ {A = ℕ} 0 1 = cc in absurd (omega arith)
 
 -- ---- rule 29 of the entry that stands in a part s of the card
 

@@ -3,7 +3,7 @@ use Prim.Native.Nat.{ℕ, zero, suc, ◌+◌, ◌-◌, ◌≤◌, ◌<◌}
 use mathlib.Core.Path.{◌≡◌, refl, sym, ap, ◌∙◌}
 use mathlib.Core.Bool.{Bool, true, false, cond, true≢false}
 use mathlib.Core.List.{List}
-use mathlib.Core.Option.{Option, none, some}
+use Rattle.std.specs.Prelude.{Option, None, Some}
 use native.Mathlib.Omega.{arith}
 use native.Mathlib.Decide.{ℕ_discrete}
 use native.Mathlib.Numerals.{add-one}
@@ -126,14 +126,14 @@ module _ {directory : List (List ℕ)} {used : List ℕ} {count : ℕ} (l : List
 
   -- where the first j numbers are before `start`, the next one is the first used entry from there if it is not, too
   module _ (start j : ℕ) (before : reached used j ≤ start) where
-    pub first-listed : (i : ℕ) → i ≡ get_or used j 0 → j < count → start ≤ i → first_used directory start ≡ some i
+    pub first-listed : (i : ℕ) → i ≡ get_or used j 0 → j < count → start ≤ i → first_used directory start ≡ Some i
     unfolding first_used
     first-listed i e h s =
         let u : NextUsed directory (reached used j) 208 i = rw e (l.each j h) in
         lowest-is (λ k. is_used (entry_at directory k)) start (208 - start) i
         (record { low = s; high = omega (arith, u.before_end); passes = u.is_used_lem; none_below = λ k a b. u.skipped k (omega arith) b })
 
-    pub none-listed : j ≡ count → first_used directory start ≡ none
+    pub none-listed : j ≡ count → first_used directory start ≡ None
     unfolding first_used
     none-listed z = lowest-nothing (λ k. is_used (entry_at directory k)) start (208 - start) (λ k a b. l.rest k (rw (← z) (omega arith)) (omega arith))
 
@@ -185,13 +185,13 @@ module _ (directory : List (List ℕ)) (p : ℕ → Bool) (unused : (i : ℕ) �
     from-here : first_from p (reached used j) ≡ first_from p i
     from-here = stays directory (first_from p) (λ k u. first-same p k (unused k u)) l j i e h
 
-    pub found_here : p i ≡ true → first_from p (reached used j) ≡ some i
+    pub found_here : p i ≡ true → first_from p (reached used j) ≡ Some i
     unfolding first_from
     found_here q = from-here ∙ lowest-here p i 208 (listed_below l j i e h) q
 
     pub found-later : p i ≡ false → first_from p (reached used j) ≡ first_from p (reached used (j + 1))
     found-later q = from-here ∙ sym (first-same p i q) ∙ ap (first_from p) (sym (add-one i) ∙ reached-next used j i e)
 
-  pub found_none : (j : ℕ) → j ≡ count → first_from p (reached used j) ≡ none
+  pub found_none : (j : ℕ) → j ≡ count → first_from p (reached used j) ≡ None
   unfolding first_from
   found_none j z = stays-to-end directory (first_from p) (λ k u. first-same p k (unused k u)) l j z

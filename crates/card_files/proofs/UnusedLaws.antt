@@ -3,7 +3,7 @@ use Prim.Native.Nat.{ℕ, zero, suc, ◌+◌, ◌≤◌, ◌<◌}
 use mathlib.Core.Path.{◌≡◌, refl, sym, ap, ◌∙◌}
 use mathlib.Core.Bool.{Bool, true, false, not, false≢true}
 use mathlib.Core.List.{List}
-use mathlib.Core.Option.{none, some}
+use Rattle.std.specs.Prelude.{None, Some}
 use mathlib.Core.Logic.{◌≢◌}
 use native.Mathlib.Omega.{arith}
 use native.Mathlib.Decide.{ℕ_discrete}
@@ -35,14 +35,14 @@ module _ {directory : List (List ℕ)} {used : List ℕ} {count : ℕ} (l : List
   used_below : (i : ℕ) → i < j → is_used (entry_at directory i) ≡ true
   used_below i h = rw (c i h) at (l.each i (omega arith)).is_used_lem
 
-  lowest-here : j < 208 → is_used (entry_at directory j) ≡ false → lowest_unused directory ≡ some j
+  lowest-here : j < 208 → is_used (entry_at directory j) ≡ false → lowest_unused directory ≡ Some j
   unfolding lowest_unused
   lowest-here h u =
       lowest-is (λ i. not (is_used (entry_at directory i))) 0 208 j
       (record { low = omega arith; high = omega arith; passes = ap not u; none_below = λ i a b. ap not (used_below i b) })
 
   -- the next number of the list is another one
-  pub lacks-number : j < count → get_or used j 0 ≢ j → lowest_unused directory ≡ some j
+  pub lacks-number : j < count → get_or used j 0 ≢ j → lowest_unused directory ≡ Some j
   lacks-number h n =
       let u = l.each j h in
       let low = u.from_start in
@@ -50,14 +50,14 @@ module _ {directory : List (List ℕ)} {used : List ℕ} {count : ℕ} (l : List
       let above : j < get_or used j 0 = omega (arith, low, r, n) in
       lowest-here (omega (arith, above, u.before_end)) (u.skipped j (omega (arith, r)) above)
 
-  full : 208 ≤ j → lowest_unused directory ≡ none
+  full : 208 ≤ j → lowest_unused directory ≡ None
   unfolding lowest_unused
   full h = lowest-nothing (λ i. not (is_used (entry_at directory i))) 0 208 (λ i a b. ap not (used_below i (omega arith)))
 
   -- the list is at its end
-  pub behind-all : j ≡ count → is_some (lowest_unused directory) ≡ true → lowest_unused directory ≡ some j
+  pub behind-all : j ≡ count → is_some (lowest_unused directory) ≡ true → lowest_unused directory ≡ Some j
   behind-all e some-unused = go (ltb j 208) refl
     where
-      go : (t : Bool) → ltb j 208 ≡ t → lowest_unused directory ≡ some j
+      go : (t : Bool) → ltb j 208 ≡ t → lowest_unused directory ≡ Some j
       go true h = lowest-here (ltb-true j 208 h) (l.rest j (rw (← e) (omega (arith, counts-reach used j c))) (ltb-true j 208 h))
       go false h = absurd (false≢true (sym (ap is_some (full (ltb-false j 208 h))) ∙ some-unused))

@@ -1,6 +1,6 @@
 // The directory's entries: the lowest unused one, an entry filled, an entry cleared.
 ghost use Rattle.std.specs.Prelude.{◌≡◌, true, List, [], ◌∷◌, ℕ, ◌≤◌, ◌<◌, length, replicate};
-ghost use Rattle.std.proofs.Math.Option.{some};
+ghost use Rattle.std.specs.Prelude.{Some};
 ghost use Rattle.words.specs.Lists.{is_some};
 ghost use Rattle.card_model.specs.Layout.{card_length, entry_place};
 ghost use Rattle.card_directory.specs.Listed.{Listed};
@@ -25,7 +25,7 @@ pub struct EntryNumbers {
 // The lowest unused entry, of any directory that has this list and an unused entry.
 pub fn lowest_unused(used: &[u8; 208], count: usize) -> usize
     requires { count ≤ 208 }
-    ensures { (directory : List (List ℕ)) → Listed directory 208 used.now count → is_some (lowest_unused directory) ≡ true → lowest_unused directory ≡ some result }
+    ensures { (directory : List (List ℕ)) → Listed directory 208 used.now count → is_some (lowest_unused directory) ≡ true → lowest_unused directory ≡ Some result }
 {
     let mut j = 0;
     while j < count {

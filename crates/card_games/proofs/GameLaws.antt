@@ -3,7 +3,7 @@ use Prim.Native.Nat.{ℕ, zero, suc, ◌+◌, ◌-◌, ◌≤◌, ◌<◌}
 use mathlib.Core.Path.{◌≡◌, refl, sym, ap, ◌∙◌}
 use mathlib.Core.Bool.{Bool, true, false, not, ◌&&◌, ◌||◌, or-true, or-false, false≢true, true≢false}
 use mathlib.Core.List.{List, ◌∷◌}
-use mathlib.Core.Option.{Option, none, some, map}
+use Rattle.std.specs.Prelude.{Option, None, Some, option_map}
 use native.Mathlib.Omega.{arith}
 use native.Mathlib.Numerals.{sub-one}
 use borrow.Author.Tests.{eqb-true, eq-eqb, ne_eqb, lt-ltb, le-ltb}
@@ -32,10 +32,10 @@ module _ (table : List ℕ) where
   chain-goes-on (suc zero) b h s = absurd (omega arith)
   chain-goes-on (suc (suc k)) b h s = go (link_at table b) refl s
     where
-      rest : (n : ℕ) (o : Option (List ℕ)) → chain table (suc k) n ≡ o → is_some (map (λ (bs : List ℕ). b ∷ bs) o) ≡ true
-          → (is_some o ≡ true) × (rising (or_empty (map (λ (bs : List ℕ). b ∷ bs) o)) ≡ (eqb n (b + 1) && rising (or_empty o)))
-      rest n none q s = absurd (false≢true s)
-      rest n (some bs) q s = rw (chain_head table (suc k) n bs q) (refl, refl)
+      rest : (n : ℕ) (o : Option (List ℕ)) → chain table (suc k) n ≡ o → is_some (option_map (λ (bs : List ℕ). b ∷ bs) o) ≡ true
+          → (is_some o ≡ true) × (rising (or_empty (option_map (λ (bs : List ℕ). b ∷ bs) o)) ≡ (eqb n (b + 1) && rising (or_empty o)))
+      rest n None q s = absurd (false≢true s)
+      rest n (Some bs) q s = rw (chain_head table (suc k) n bs q) (refl, refl)
 
       go : (l : Link) → link_at table b ≡ l → is_some (chain_step l b (suc k) (λ n. chain table (suc k) n)) ≡ true → GoesOn (suc (suc k)) b
       go Free q s = absurd (false≢true s)
@@ -53,7 +53,7 @@ module _ (table : List ℕ) where
   ends (suc (suc k)) b h s = absurd (omega arith)
   ends (suc zero) b h s = go (link_at table b) s
     where
-      go : (l : Link) → is_some (chain_step l b 0 (λ n. none)) ≡ true → rising (or_empty (chain_step l b 0 (λ n. none))) ≡ true
+      go : (l : Link) → is_some (chain_step l b 0 (λ n. None)) ≡ true → rising (or_empty (chain_step l b 0 (λ n. None))) ≡ true
       go Free s = absurd (false≢true s)
       go Damaged s = absurd (false≢true s)
       go Bad s = absurd (false≢true s)
@@ -70,7 +70,7 @@ pub chain-of-game : (table entry : List ℕ) → is_game entry ≡ true → wron
 unfolding is_game is_used
 chain-of-game table entry g w b z =
     let u : is_used entry ≡ true = rw (eqb-true (kind entry) 0xCC g) in
-    let e : chain table (size entry) 0 ≡ some (file_of table entry) = rw (← z) (file-chain entry u table b) in
+    let e : chain table (size entry) 0 ≡ Some (file_of table entry) = rw (← z) (file-chain entry u table b) in
     record { most = (right-entry entry u w).2; there = rw e; file = rw e }
 
 -- an unused entry is no game

@@ -5,7 +5,8 @@ use Prim.Native.Nat.{ℕ, zero, suc, ◌+◌, ◌-◌, ◌≤◌, ◌<◌}
 use mathlib.Core.Path.{◌≡◌, refl, sym, ap, subst, ◌∙◌}
 use mathlib.Core.Bool.{Bool, true, false, ◌||◌, false≢true}
 use mathlib.Core.List.{List, [], ◌∷◌}
-use mathlib.Core.Option.{Option, none, some, map, some-injective}
+use Rattle.std.specs.Prelude.{Option, None, Some, option_map}
+use Rattle.std.proofs.lemmas.Option.{same_Some}
 use mathlib.Core.Logic.{◌↔◌}
 use native.Mathlib.Omega.{arith}
 use lib.Dec.{eqb}
@@ -33,31 +34,31 @@ one_less : (k : ℕ) → 1 ≤ k → suc k - 1 ≡ suc (k - 1)
 one_less k h = omega arith
 
 module _ (table : List ℕ) where
-  pub chain-links : (left b : ℕ) (bs : List ℕ) → chain table left b ≡ some bs → Links table left b bs
+  pub chain-links : (left b : ℕ) (bs : List ℕ) → chain table left b ≡ Some bs → Links table left b bs
   unfolding chain chain_step
   chain-links zero b bs e = let z : ◌≡◌ {A = ℕ} 0 1 = cc in absurd (omega arith)
   chain-links (suc left) b bs e = go (chain-links left) (link_at table b) refl e
     where
-      go : ((b : ℕ) (bs : List ℕ) → chain table left b ≡ some bs → Links table left b bs) → (l : Link) → link_at table b ≡ l
-          → chain_step l b left (λ n. chain table left n) ≡ some bs → Links table (suc left) b bs
+      go : ((b : ℕ) (bs : List ℕ) → chain table left b ≡ Some bs → Links table left b bs) → (l : Link) → link_at table b ≡ l
+          → chain_step l b left (λ n. chain table left n) ≡ Some bs → Links table (suc left) b bs
       go ih Free q f = let z : ◌≡◌ {A = ℕ} 0 1 = cc in absurd (omega arith)
       go ih Damaged q f = let z : ◌≡◌ {A = ℕ} 0 1 = cc in absurd (omega arith)
       go ih Bad q f = let z : ◌≡◌ {A = ℕ} 0 1 = cc in absurd (omega arith)
       go ih Last q f = last left f
         where
-          last : (k : ℕ) → chain_step Last b k (λ n. chain table left n) ≡ some bs → Links table (suc k) b bs
-          last zero f = subst (λ (l : List ℕ). Links table 1 b l) (some-injective _ _ f) (ends q)
+          last : (k : ℕ) → chain_step Last b k (λ n. chain table left n) ≡ Some bs → Links table (suc k) b bs
+          last zero f = subst (λ (l : List ℕ). Links table 1 b l) (same_Some _ _ f) (ends q)
           last (suc k) f =
               let e : eqb (suc k) 0 ≡ false = ne_eqb (suc k) 0 (λ d. omega arith) in
               let z : ◌≡◌ {A = ℕ} 0 1 = cc in
               absurd (omega arith)
       go ih (Next n) q f = next (chain table left n) refl f
         where
-          next : (o : Option (List ℕ)) → chain table left n ≡ o → map (λ (blocks : List ℕ). b ∷ blocks) o ≡ some bs → Links table (suc left) b bs
-          next none r f = let z : ◌≡◌ {A = ℕ} 0 1 = cc in absurd (omega arith)
-          next (some rest) r f = subst (λ (l : List ℕ). Links table (suc left) b l) (some-injective _ _ f) (goes q (ih n rest r))
+          next : (o : Option (List ℕ)) → chain table left n ≡ o → option_map (λ (blocks : List ℕ). b ∷ blocks) o ≡ Some bs → Links table (suc left) b bs
+          next None r f = let z : ◌≡◌ {A = ℕ} 0 1 = cc in absurd (omega arith)
+          next (Some rest) r f = subst (λ (l : List ℕ). Links table (suc left) b l) (same_Some _ _ f) (goes q (ih n rest r))
 
-  pub links-chain : {left b : ℕ} {bs : List ℕ} → Links table left b bs → chain table left b ≡ some bs
+  pub links-chain : {left b : ℕ} {bs : List ℕ} → Links table left b bs → chain table left b ≡ Some bs
   unfolding chain chain_step
   links-chain (ends q) = rw q
   links-chain (goes q l) = rw (q, links-chain l)
@@ -113,9 +114,9 @@ module _ (table : List ℕ) where
         last = ap (λ (k : ℕ). fat_entry table (at k)) (sym (one_less (length (n ∷ bs)) (omega arith))) ∙ c.last;
       }
 
-  are-chain : (left b : ℕ) (bs : List ℕ) → IsChain table left b bs → chain table left b ≡ some bs
+  are-chain : (left b : ℕ) (bs : List ℕ) → IsChain table left b bs → chain table left b ≡ Some bs
   are-chain left b bs c =
-      let e : chain table (length bs) (get_or bs 0 0) ≡ some bs = links-chain (are-links bs (rw (c.long, c.first) c)) in
+      let e : chain table (length bs) (get_or bs 0 0) ≡ Some bs = links-chain (are-links bs (rw (c.long, c.first) c)) in
       rw (c.long, c.first) at e
 
   -- ---- what a chain that is there tells
@@ -173,7 +174,7 @@ module _ (table : List ℕ) where
   links-used (ends q) = (rw q, tt)
   links-used (goes q l) = (rw q, links-used l)
 
-  module _ (left b : ℕ) (bs : List ℕ) (e : chain table left b ≡ some bs) where
+  module _ (left b : ℕ) (bs : List ℕ) (e : chain table left b ≡ Some bs) where
     pub chain_length : length bs ≡ left
     chain_length = (links-are (chain-links left b bs e)).long
 
@@ -194,5 +195,5 @@ module _ (table : List ℕ) where
         head (ends q) = refl
         head (goes q l) = refl
 
-pub chain_exactly : (table : List ℕ) (left b : ℕ) (blocks : List ℕ) → (chain table left b ≡ some blocks) ↔ IsChain table left b blocks
+pub chain_exactly : (table : List ℕ) (left b : ℕ) (blocks : List ℕ) → (chain table left b ≡ Some blocks) ↔ IsChain table left b blocks
 chain_exactly table left b blocks = (λ e. links-are table (chain-links table left b blocks e), are-chain table left b blocks)

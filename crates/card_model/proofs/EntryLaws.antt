@@ -3,7 +3,7 @@ use Prim.Native.Nat.{ℕ, suc, ◌+◌, ◌≤◌, ◌<◌}
 use mathlib.Core.Path.{◌≡◌, refl, sym, ap, ◌∙◌}
 use mathlib.Core.Bool.{Bool, true, false, cond, false≢true}
 use mathlib.Core.List.{List, [], ◌++◌, map}
-use mathlib.Core.Option.{Option, none, some}
+use Rattle.std.specs.Prelude.{Option, None, Some}
 use mathlib.Core.Logic.{◌↔◌, ◌≢◌}
 use native.Mathlib.Omega.{arith}
 use lib.Dec.{leb}
@@ -69,13 +69,13 @@ module _ (entry : List ℕ) (u : is_used entry ≡ true) where
       let n = not-false _ (or-false-left _ (wrong_offset entry) b) in
       (ltb-true _ _ (not-false _ (or-false-left _ _ a)), leb-true _ _ (and-true-left (leb 1 (size entry)) _ n), leb-true _ _ (and-true-right (leb 1 (size entry)) _ n))
 
-  pub file-chain : (table : List ℕ) → bad_chain table entry ≡ false → chain table (size entry) (first_block entry) ≡ some (file_of table entry)
+  pub file-chain : (table : List ℕ) → bad_chain table entry ≡ false → chain table (size entry) (first_block entry) ≡ Some (file_of table entry)
   unfolding bad_chain chain_of file_of
   file-chain table e = rw u (go (chain table (size entry) (first_block entry)) (not-false _ (rw u at e)))
     where
-      go : (o : Option (List ℕ)) → is_some o ≡ true → o ≡ some (or_empty o)
-      go none h = absurd (false≢true h)
-      go (some bs) h = refl
+      go : (o : Option (List ℕ)) → is_some o ≡ true → o ≡ Some (or_empty o)
+      go None h = absurd (false≢true h)
+      go (Some bs) h = refl
 
 pub no_file : (table entry : List ℕ) → is_used entry ≡ false → file_of table entry ≡ []
 unfolding file_of

@@ -4,7 +4,7 @@ use Prim.Native.Nat.{ℕ, zero, suc, ◌+◌, ◌≤◌, ◌<◌}
 use mathlib.Core.Path.{◌≡◌, refl, sym, ap, subst, ◌∙◌}
 use mathlib.Core.Bool.{Bool, true, false, not, true≢false}
 use mathlib.Core.List.{List, [], ◌∷◌}
-use mathlib.Core.Option.{some}
+use Rattle.std.specs.Prelude.{Some}
 use mathlib.Core.Logic.{◌≢◌}
 use native.Mathlib.Nat.{le_trans}
 use native.Mathlib.Omega.{arith}
@@ -57,7 +57,7 @@ module _ (card : List ℕ) (sound : SoundCard card) where
     right : (first_block (entry_on card i) < 200) × (1 ≤ size (entry_on card i)) × (size (entry_on card i) ≤ 200)
     right = right-entry (entry_on card i) used.is_used_lem (rows.entries i used.in_directory)
 
-    is_chain : chain table (size (entry_on card i)) (first_block (entry_on card i)) ≡ some (file_on card i)
+    is_chain : chain table (size (entry_on card i)) (first_block (entry_on card i)) ≡ Some (file_on card i)
     is_chain = file-chain (entry_on card i) used.is_used_lem table (rows.chains i used.in_directory)
 
     user_blocks_lem : All (λ x. x < 200) (file_on card i)

@@ -5,7 +5,7 @@ use mathlib.Core.Path.{◌≡◌, refl, sym, ap, ◌∙◌}
 use mathlib.Core.Bool.{Bool, true, false, cond, ◌&&◌, or-true, false≢true}
 use mathlib.Core.Logic.{◌≢◌, ◌⊎◌, ⊎_elim}
 use mathlib.Core.List.{List, [], map, append-nil}
-use mathlib.Core.Option.{Option, none, some}
+use Rattle.std.specs.Prelude.{Option, None, Some}
 use native.Mathlib.Omega.{arith}
 use lib.ListN.{length, get_or, take, drop, length-map, length-drop, get_or-map}
 use lib.Seq.{length-take-le}
@@ -36,7 +36,7 @@ pub lists : (card : List ℕ) → SoundCard card → (start i : ℕ) → UsedEnt
     → ((j : ℕ) → start ≤ j → j < i → is_used (entry_on card j) ≡ false) → list_of card start ≡ listed_entry i (entry_on card i)
 unfolding list_of first_used
 lists card s start i u h f =
-    let e : first_used (directory_of card) start ≡ some i =
+    let e : first_used (directory_of card) start ≡ Some i =
     lowest-is _ start (208 - start) i (record { low = h; high = omega (arith, u.in_directory); passes = u.is_used_lem; none_below = f }) in
     rw (s, e)
 
@@ -44,7 +44,7 @@ pub lists_none : (card : List ℕ) → SoundCard card → (start : ℕ)
     → ((j : ℕ) → start ≤ j → j < 208 → is_used (entry_on card j) ≡ false) → list_of card start ≡ not_listed (refused_at 31 Whole)
 unfolding list_of first_used
 lists_none card s start f =
-    let e : first_used (directory_of card) start ≡ none = lowest-nothing _ start (208 - start) (λ j a b. f j a (omega arith)) in
+    let e : first_used (directory_of card) start ≡ None = lowest-nothing _ start (208 - start) (λ j a b. f j a (omega arith)) in
     rw (s, e)
 
 -- what it says of the copy flag
@@ -64,8 +64,8 @@ lists_flag card start v = go (accepted (verdict_of card)) refl (first_used (dire
         → (cond t (listed_from (directory_of card) found) (not_listed (verdict_of card))).verdict.number ≡ 0
         → ShowsFlag card (cond t (listed_from (directory_of card) found) (not_listed (verdict_of card)))
     go false e found f v = absurd (false≢true (sym e ∙ eq-eqb _ 0 v))
-    go true e none f v = absurd (omega (arith, v))
-    go true e (some i) f v =
+    go true e None f v = absurd (omega (arith, v))
+    go true e (Some i) f v =
         let l = lowest-some (λ j. is_used (entry_on card j)) start (208 - start) i f in
         entry-shows card i (omega (arith, l.low, l.high))
 
@@ -90,8 +90,8 @@ lists_nothing card start n = go (accepted (verdict_of card)) (first_used (direct
     go : (t : Bool) (found : Option ℕ) → (cond t (listed_from (directory_of card) found) (not_listed (verdict_of card))).verdict.number ≢ 0
         → ShowsNothing (cond t (listed_from (directory_of card) found) (not_listed (verdict_of card)))
     go false found n = nothing (verdict_of card)
-    go true none n = nothing (refused_at 31 Whole)
-    go true (some i) n = absurd (n refl)
+    go true None n = nothing (refused_at 31 Whole)
+    go true (Some i) n = absurd (n refl)
 
 -- ---- blocks and names
 
@@ -112,7 +112,7 @@ module _ (card : List ℕ) (s : SoundCard card) (i : ℕ) (u : UsedEntry card i)
   abbrev name : List ℕ
   name = name_of (entry_on card i)
 
-  pub found_by_name : entry_named (directory_of card) (name_of (entry_on card i)) ≡ some i
+  pub found_by_name : entry_named (directory_of card) (name_of (entry_on card i)) ≡ Some i
   unfolding entry_named is_named name_taken
   found_by_name =
       lowest-is (λ j. is_named name (entry_on card j)) 0 208 i (record {
@@ -127,7 +127,7 @@ module _ (card : List ℕ) (s : SoundCard card) (i : ℕ) (u : UsedEntry card i)
   abbrev blocks : List (List ℕ)
   blocks = map (block_at card) (file_on card i)
 
-  chain-is : chain (table_of card) (size (entry_on card i)) (first_block (entry_on card i)) ≡ some (file_on card i)
+  chain-is : chain (table_of card) (size (entry_on card i)) (first_block (entry_on card i)) ≡ Some (file_on card i)
   chain-is = file-chain (entry_on card i) u.is_used_lem (table_of card) (rows.chains i u.in_directory)
 
   blocks-many : length blocks ≡ size (entry_on card i)

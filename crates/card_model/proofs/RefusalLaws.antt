@@ -3,7 +3,7 @@ use Prim.Native.Nat.{ℕ, suc, ◌-◌, ◌≤◌, ◌<◌, zero-le}
 use mathlib.Core.Path.{◌≡◌, refl, sym, ap, subst, ◌∙◌}
 use mathlib.Core.Bool.{Bool, true, false, not, cond, false≢true}
 use mathlib.Core.List.{List, [], ◌∷◌}
-use mathlib.Core.Option.{Option, none, some}
+use Rattle.std.specs.Prelude.{Option, None, Some}
 use mathlib.Core.Logic.{◌↔◌, ◌≢◌, ◌⊎◌, inl, inr}
 use native.Mathlib.Omega.{arith}
 use lib.Dec.{eqb, ltb}
@@ -35,8 +35,8 @@ over-fires : (n : ℕ) (place : ℕ → Place) (wrong : ℕ → Bool) (a e i : �
 over-fires n place wrong a e i l h w same = go (lowest wrong a (e - a)) refl
   where
     go : (o : Option ℕ) → lowest wrong a (e - a) ≡ o → ((row_over n place o).number ≡ n) × (place_number (row_over n place o).place ≤ i)
-    go none q = absurd (false≢true (sym (lowest-none wrong a (e - a) q i l (omega arith)) ∙ w))
-    go (some j) q =
+    go None q = absurd (false≢true (sym (lowest-none wrong a (e - a) q i l (omega arith)) ∙ w))
+    go (Some j) q =
         let f = lowest-some wrong a (e - a) j q in
         let not_below : i < j → ⊥ = λ b. false≢true (sym (f.none_below i l b) ∙ w) in
         (refl, omega (arith, same j, not_below))
@@ -144,8 +144,8 @@ module _ (card : List ℕ) where
   over-tells n place test a e w = go (lowest test a (e - a)) refl
     where
       go : (o : Option ℕ) → lowest test a (e - a) ≡ o → Tells n (row_over n place o)
-      go none q = inl refl
-      go (some i) q =
+      go None q = inl refl
+      go (Some i) q =
           let f = lowest-some test a (e - a) i q in
           inr (refl, w i f.low (omega (arith, f.low, f.high)) f.passes)
 

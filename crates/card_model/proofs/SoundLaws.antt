@@ -3,7 +3,7 @@ use Prim.Native.Nat.{ℕ, ◌+◌, ◌≤◌, ◌<◌}
 use mathlib.Core.Path.{◌≡◌, refl, sym, ap, ◌∙◌}
 use mathlib.Core.Bool.{Bool, true, false, not, cond, false≢true}
 use mathlib.Core.List.{List}
-use mathlib.Core.Option.{Option, none, some}
+use Rattle.std.specs.Prelude.{Option, None, Some}
 use mathlib.Core.Logic.{◌↔◌}
 use native.Mathlib.Omega.{arith}
 use lib.Dec.{eqb}
@@ -43,8 +43,8 @@ over-accepts : (n : ℕ) (p : ℕ → Place) (q : ℕ → Bool) (a k : ℕ) → 
 over-accepts n p q a k h e = go (lowest q a k) refl e
   where
     go : (o : Option ℕ) → lowest q a k ≡ o → accepted (row_over n p o) ≡ true → (i : ℕ) → a ≤ i → i < a + k → q i ≡ false
-    go none r e = lowest-none q a k r
-    go (some j) r e = absurd (false≢true (sym h ∙ e))
+    go None r e = lowest-none q a k r
+    go (Some j) r e = absurd (false≢true (sym h ∙ e))
 
 pub below-accepts : (n : ℕ) (p : ℕ → Place) (q : ℕ → Bool) (k : ℕ) → eqb n 0 ≡ false → accepted (row_over n p (lowest q 0 k)) ≡ true
     → (i : ℕ) → i < k → q i ≡ false

@@ -3,7 +3,7 @@ use Prim.Native.Nat.{ℕ, zero, suc, ◌+◌, ◌<◌}
 use mathlib.Core.Path.{◌≡◌, refl, sym, ap, ◌∙◌}
 use mathlib.Core.Bool.{Bool, true, false, not, ◌||◌, false≢true, or-true, and-false}
 use mathlib.Core.List.{List, [], ◌∷◌}
-use mathlib.Core.Option.{Option, none, some}
+use Rattle.std.specs.Prelude.{Option, None, Some}
 use mathlib.Core.Logic.{◌≢◌, ◌⊎◌, ⊎_elim}
 use native.Mathlib.Omega.{arith}
 use lib.Dec.{eqb, ltb}
@@ -75,8 +75,8 @@ module _ (table entry : List ℕ) where
   chain-is-bad u n = rw u (go (chain table (size entry) (first_block entry)) refl)
     where
       go : (o : Option (List ℕ)) → chain table (size entry) (first_block entry) ≡ o → not (is_some o) ≡ true
-      go none q = refl
-      go (some blocks) q = absurd (n blocks ((chain_exactly table (size entry) (first_block entry) blocks).0 q))
+      go None q = refl
+      go (Some blocks) q = absurd (n blocks ((chain_exactly table (size entry) (first_block entry) blocks).0 q))
 
 -- ---- every next block one higher
 

@@ -2,7 +2,7 @@
 -- layout".
 -- Assumes nothing.
 use Rattle.std.specs.Prelude.{ℕ, ◌-◌, not, cond, ◌||◌, List, eqb, leb, length, get_or, replicate}
-use Rattle.std.proofs.Math.Option.{Option, none, some}
+use Rattle.std.specs.Prelude.{Option, None, Some}
 use Rattle.words.specs.Search.{lowest}
 use Rattle.verdicts.specs.declared.Place.TheVariants.{Whole}
 use Rattle.verdicts.specs.declared.Verdict.{Verdict}
@@ -98,8 +98,8 @@ first_used directory start = lowest (λ i. is_used (entry_at directory i)) start
 
 -- 31: "no used entry from there on"
 abbrev pub listed_from : List (List ℕ) → Option ℕ → Listing
-listed_from directory none = not_listed (refused_at 31 Whole)
-listed_from directory (some i) = listed_entry i (entry_at directory i)
+listed_from directory None = not_listed (refused_at 31 Whole)
+listed_from directory (Some i) = listed_entry i (entry_at directory i)
 
 unfoldable pub list_of : List ℕ → ℕ → Listing
 list_of card start =
@@ -113,8 +113,8 @@ entry_named directory name = lowest (λ i. is_named name (entry_at directory i))
 
 -- 31: "no file of that name"; 32: "block index not below the file's size"
 abbrev pub index_row : List (List ℕ) → ℕ → Option ℕ → Verdict
-index_row directory index none = refused_at 31 Whole
-index_row directory index (some i) = row_at 32 Whole (leb (entry.size (entry_at directory i)) index)
+index_row directory index None = refused_at 31 Whole
+index_row directory index (Some i) = row_at 32 Whole (leb (entry.size (entry_at directory i)) index)
 
 -- 33: "name not 12 bytes, or block buffer not 512". "A card file read then tests 33, 31, 32."
 unfoldable pub read_rows : List (List ℕ) → List ℕ → ℕ → List ℕ → Verdict
@@ -131,8 +131,8 @@ file_block card i index = get_or (file_of (table_of card) (entry_at (directory_o
 
 -- "its 512 bytes fill the block buffer"
 abbrev pub block_read : List ℕ → ℕ → Option ℕ → List ℕ → List ℕ
-block_read card index none buffer = buffer
-block_read card index (some i) buffer = block_at card (file_block card i index)
+block_read card index None buffer = buffer
+block_read card index (Some i) buffer = block_at card (file_block card i index)
 
 -- "A refusal changes no byte of any buffer": what a read of this verdict leaves, where its name found this entry.
 abbrev pub left_by : Verdict → List ℕ → ℕ → Option ℕ → List ℕ → List ℕ

@@ -1,8 +1,7 @@
 -- Chains and files: document 01, "Card layout", from "Chain:" on, and rows 27, 28 and 30 of the table of numbers.
 -- Assumes nothing.
 use Rattle.std.specs.Prelude.{ℕ, zero, suc, ◌+◌, Bool, true, not, cond, ◌&&◌, ◌||◌, List, [], ◌∷◌, map, eqb, ltb, length}
-use Rattle.std.proofs.Math.Option
-use Rattle.std.proofs.Math.Option.{Option, none, some}
+use Rattle.std.specs.Prelude.{Option, None, Some, option_map}
 use Rattle.words.specs.Lists.{keep, any_of, has, concat, is_some, numbers_from}
 use Rattle.words.specs.Search.{lowest}
 use Rattle.verdicts.specs.declared.Place.TheVariants.{Entry}
@@ -18,16 +17,16 @@ use Rattle.card_model.specs.Entries.{first_block, size, is_used, is_game, entry_
 -- One step of a chain at block b with `left` blocks after it: the last block's entry is FFFA, each other one names the
 -- next block, from which the rest follows.
 unfoldable pub chain_step : Link → ℕ → ℕ → (ℕ → Option (List ℕ)) → Option (List ℕ)
-chain_step Last b left rest = cond (eqb left 0) (some (b ∷ [])) none
-chain_step (Next n) b left rest = Option.map (λ (blocks : List ℕ). b ∷ blocks) (rest n)
-chain_step Free b left rest = none
-chain_step Damaged b left rest = none
-chain_step Bad b left rest = none
+chain_step Last b left rest = cond (eqb left 0) (Some (b ∷ [])) None
+chain_step (Next n) b left rest = option_map (λ (blocks : List ℕ). b ∷ blocks) (rest n)
+chain_step Free b left rest = None
+chain_step Damaged b left rest = None
+chain_step Bad b left rest = None
 
 -- "follow the table from the first block with one fewer block left at each step": the blocks of the chain, or none where it is
 -- bad.
 unfoldable pub chain : List ℕ → ℕ → ℕ → Option (List ℕ)
-chain table zero b = none
+chain table zero b = None
 chain table (suc left) b = chain_step (link_at table b) b left (λ n. chain table left n)
 
 -- The chain of an entry.
@@ -44,8 +43,8 @@ chain_row table directory = row_over 27 Entry (lowest (λ i. bad_chain table (en
 -- ---- files
 
 abbrev pub or_empty : Option (List ℕ) → List ℕ
-or_empty none = []
-or_empty (some blocks) = blocks
+or_empty None = []
+or_empty (Some blocks) = blocks
 
 -- The blocks of an entry's file, in order.
 unfoldable pub file_of : List ℕ → List ℕ → List ℕ

@@ -1,7 +1,7 @@
 -- What is proved of the definitions, above all of a card that passes the check.
 -- Assumes nothing.
 use Rattle.std.specs.Prelude.{ℕ, ◌+◌, ◌*◌, ◌-◌, ◌≤◌, ◌<◌, ◌≡◌, true, false, List, [], ◌∷◌, map, ◌↔◌, ◌≢◌, ◌⊎◌, length, get_or, take, drop, replicate}
-use Rattle.std.proofs.Math.Option.{some}
+use Rattle.std.specs.Prelude.{Some}
 use Rattle.words.specs.Lists.{keep, has, Distinct, concat, numbers_from}
 use Rattle.words.specs.Words.{word}
 use Rattle.verdicts.specs.declared.Place.{Place}
@@ -138,7 +138,7 @@ pub record Theorems : Type 0 where
   pub checks : (card : List ℕ) → SoundCard card
       → check_of card ≡ record { verdict = done; orphans = files.orphans (table_of card) (directory_of card) }
   -- the walk finds exactly the blocks that are a chain
-  pub chain_exactly : (table : List ℕ) (left b : ℕ) (blocks : List ℕ) → (chain table left b ≡ some blocks) ↔ IsChain table left b blocks
+  pub chain_exactly : (table : List ℕ) (left b : ℕ) (blocks : List ℕ) → (chain table left b ≡ Some blocks) ↔ IsChain table left b blocks
   -- a used entry's file is its chain, and an unused one has none
   pub file_exactly : (card : List ℕ) (i : ℕ) (blocks : List ℕ) → UsedEntry card i
       → IsChain (table_of card) (size (entry_on card i)) (first_block (entry_on card i)) blocks → file_on card i ≡ blocks
@@ -167,7 +167,7 @@ pub record Theorems : Type 0 where
   pub lists_nothing : (card : List ℕ) (start : ℕ) → (list_of card start).verdict.number ≢ 0 → ShowsNothing (list_of card start)
   pub protected_exactly : (entry : List ℕ) → (is_protected entry ≡ true) ↔ (flag entry ≡ 0xFF)
   -- a name finds its own entry
-  pub found_by_name : (card : List ℕ) → SoundCard card → (i : ℕ) → UsedEntry card i → entry_named (directory_of card) (name_of (entry_on card i)) ≡ some i
+  pub found_by_name : (card : List ℕ) → SoundCard card → (i : ℕ) → UsedEntry card i → entry_named (directory_of card) (name_of (entry_on card i)) ≡ Some i
   -- the blocks of a file, read in order, are its bytes
   pub reads_block : (card : List ℕ) → SoundCard card → (i index : ℕ) (buffer : List ℕ) → UsedEntry card i → index < size (entry_on card i)
       → length buffer ≡ 512

@@ -3,7 +3,7 @@ use Prim.Native.Nat.{ℕ, suc, ◌+◌, ◌-◌, ◌≤◌, ◌<◌}
 use mathlib.Core.Path.{◌≡◌, refl, sym, ap, ◌∙◌}
 use mathlib.Core.Bool.{Bool, true, false}
 use mathlib.Core.List.{List}
-use mathlib.Core.Option.{none}
+use Rattle.std.specs.Prelude.{None}
 use native.Mathlib.Omega.{arith}
 use native.Mathlib.Decide.{ℕ_discrete}
 use lib.Dec.{ltb}
@@ -160,7 +160,7 @@ module _ (directory : List (List ℕ)) (used : List ℕ) where
     -- number j is entry i, whose name was sought among those before it
     module _ (j i : ℕ) (e : i ≡ get_or used j 0) (h : j < count) {r : ℕ} (f : LastOf name (name_of (entry_at directory i)) j r) where
       pub name_free : r ≡ 0 → name_taken directory i ≡ false
-      name_free z = used-name directory i (entry_at directory i) refl (listed-used l j i e h) none (lowest-nothing test 0 i other)
+      name_free z = used-name directory i (entry_at directory i) refl (listed-used l j i e h) None (lowest-nothing test 0 i other)
         where
           test : ℕ → Bool
           test k = is_named (name_of (entry_at directory i)) (entry_at directory k)

@@ -3,7 +3,7 @@ use Prim.Native.Nat.{ℕ, ◌+◌, ◌-◌, ◌≤◌, ◌<◌}
 use mathlib.Core.Path.{◌≡◌, sym, ◌∙◌}
 use mathlib.Core.Bool.{Bool, false}
 use mathlib.Core.List.{List, map}
-use mathlib.Core.Option.{none, some}
+use Rattle.std.specs.Prelude.{None, Some}
 use native.Mathlib.Omega.{arith}
 use native.Mathlib.Decide.{ℕ_discrete}
 use lib.ListN.{length, get_or, take, drop, set, length-set, length-map}
@@ -58,28 +58,28 @@ ready-later Hidden a b h r = tt
 ready-later User a b h r = tt
 
 -- where no number of a range passes the test, none is found
-none-wrong : (p : ℕ → Bool) (a n : ℕ) (r : Bool) → r ≡ any_of p (numbers_from a n) → r ≡ false → lowest p a n ≡ none
+none-wrong : (p : ℕ → Bool) (a n : ℕ) (r : Bool) → r ≡ any_of p (numbers_from a n) → r ≡ false → lowest p a n ≡ None
 none-wrong p a n r e t = lowest-nothing p a n (none-range p a n (sym e ∙ t))
 
 -- rows 23 to 25 by what is found
 module _ (table : List ℕ) where
-  pub system-refused : (b : ℕ) → lowest (wrong_system table) 241 15 ≡ some b → refused_at 23 (Block b) ≡ region_rows table
+  pub system-refused : (b : ℕ) → lowest (wrong_system table) 241 15 ≡ Some b → refused_at 23 (Block b) ≡ region_rows table
   unfolding region_rows system_row
   system-refused b e = rw e
 
   module _ {s : Bool} (p : s ≡ any_of (wrong_system table) (numbers_from 241 15)) (no-s : s ≡ false) where
-    system : lowest (wrong_system table) 241 15 ≡ none
+    system : lowest (wrong_system table) 241 15 ≡ None
     system = none-wrong (wrong_system table) 241 15 s p no-s
 
-    pub hidden-refused : (b : ℕ) → lowest (wrong_hidden table) 200 41 ≡ some b → refused_at 24 (Block b) ≡ region_rows table
+    pub hidden-refused : (b : ℕ) → lowest (wrong_hidden table) 200 41 ≡ Some b → refused_at 24 (Block b) ≡ region_rows table
     unfolding region_rows system_row hidden_row
     hidden-refused b e = rw (system, e)
 
     module _ {h : Bool} (q : h ≡ any_of (wrong_hidden table) (numbers_from 200 41)) (no-h : h ≡ false) where
-      hidden : lowest (wrong_hidden table) 200 41 ≡ none
+      hidden : lowest (wrong_hidden table) 200 41 ≡ None
       hidden = none-wrong (wrong_hidden table) 200 41 h q no-h
 
-      pub user-refused : (b : ℕ) → lowest (wrong_user table) 0 200 ≡ some b → refused_at 25 (Block b) ≡ region_rows table
+      pub user-refused : (b : ℕ) → lowest (wrong_user table) 0 200 ≡ Some b → refused_at 25 (Block b) ≡ region_rows table
       unfolding region_rows system_row hidden_row user_row
       user-refused b e = rw (system, hidden, e)
 

@@ -2,7 +2,7 @@
 
 // The root block and the table of a card: refusals 21 to 25, the table's entries and their classes.
 ghost use Rattle.std.specs.Prelude.{◌≡◌, true, ◌+◌, ◌-◌, ◌≤◌, ◌<◌, length};
-ghost use Rattle.std.proofs.Math.Option.{some};
+ghost use Rattle.std.specs.Prelude.{Some};
 ghost use Rattle.words.specs.Lists.{any_of, numbers_from};
 ghost use Rattle.words.specs.Search.{lowest};
 ghost use Rattle.verdicts.specs.Rows.{unless_refused};
@@ -143,7 +143,7 @@ fn first_wrong(card: &[u8], region: Region, from: usize, to: usize) -> usize
     requires card_len { (length card.now ≡ card_length) × (to ≤ 256) }
     requires ready { Ready region from }
     requires from_value { any_of (wrong_in region (table_of card.now)) (numbers_from from (to - from)) ≡ true }
-    ensures { lowest (wrong_in region (table_of card.now)) from (to - from) ≡ some result }
+    ensures { lowest (wrong_in region (table_of card.now)) from (to - from) ≡ Some result }
 {
     let mut b = from;
     while b < to {

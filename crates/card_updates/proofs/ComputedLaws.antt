@@ -1,7 +1,7 @@
 -- Worked examples on short lists, by computation. Assumes nothing.
 use mathlib.Core.Path.{◌≡◌, refl}
 use mathlib.Core.List.{[], ◌∷◌, ◌++◌}
-use mathlib.Core.Option.{some}
+use Rattle.std.specs.Prelude.{Some}
 use lib.ListN.{replicate}
 use Rattle.words.specs.Words.{word_bytes}
 use Rattle.card_model.specs.Layout.{fat_place}
@@ -20,7 +20,7 @@ pub short_free : free_blocks (0xFFFC ∷ 0xFFFF ∷ 4 ∷ 0xFFFC ∷ 0xFFFA ∷ 
 unfolding free_blocks fat_entry link_of link_at
 short_free = refl
 
-pub short_unused : lowest_unused ((0x33 ∷ []) ∷ (0x00 ∷ 0x41 ∷ []) ∷ (0xCC ∷ []) ∷ []) ≡ some 1
+pub short_unused : lowest_unused ((0x33 ∷ []) ∷ (0x00 ∷ 0x41 ∷ []) ∷ (0xCC ∷ []) ∷ []) ≡ Some 1
 unfolding lowest_unused entry_at is_used kind
 short_unused = refl
 

@@ -3,7 +3,8 @@ use Prim.Native.Nat.{ℕ, ◌+◌, ◌*◌, ◌≤◌, ◌<◌}
 use mathlib.Core.Path.{◌≡◌, refl, sym, ap, ◌∙◌}
 use mathlib.Core.Bool.{Bool, true, false, not, true≢false, false≢true}
 use mathlib.Core.List.{List, [], ◌∷◌}
-use mathlib.Core.Option.{Option, none, some, some-injective}
+use Rattle.std.specs.Prelude.{Option, None, Some}
+use Rattle.std.proofs.lemmas.Option.{same_Some}
 use mathlib.Core.Logic.{◌≢◌, ◌⊎◌, inl, inr, ⊎_elim}
 use native.Mathlib.Omega.{arith}
 use native.Mathlib.Decide.{ℕ_discrete}
@@ -38,7 +39,7 @@ use Rattle.card_updates.proofs.ReplaceLaws.{all_in, Replaced, in-file-below, oth
 
 -- ---- what a search by name tells
 
-pub named-tells : (card name : List ℕ) (i : ℕ) → entry_named (directory_of card) name ≡ some i → UsedEntry card i × (name_of (entry_on card i) ≡ name)
+pub named-tells : (card name : List ℕ) (i : ℕ) → entry_named (directory_of card) name ≡ Some i → UsedEntry card i × (name_of (entry_on card i) ≡ name)
 unfolding entry_named is_named
 named-tells card name i e =
     let l = lowest-some (λ j. is_named name (entry_on card j)) 0 208 i e in (
@@ -46,7 +47,7 @@ named-tells card name i e =
       same-eq _ _ (and-true-right (is_used (entry_on card i)) _ l.passes),
     )
 
-pub none_named : (card name : List ℕ) → ((j : ℕ) → UsedEntry card j → name_of (entry_on card j) ≢ name) → entry_named (directory_of card) name ≡ none
+pub none_named : (card name : List ℕ) → ((j : ℕ) → UsedEntry card j → name_of (entry_on card j) ≢ name) → entry_named (directory_of card) name ≡ None
 unfolding entry_named is_named
 none_named card name f = lowest-nothing (λ j. is_named name (entry_on card j)) 0 208 (λ j a b. other j (omega arith) (is_used (entry_on card j)) refl)
   where
@@ -57,7 +58,7 @@ none_named card name f = lowest-nothing (λ j. is_named name (entry_on card j)) 
 -- two used entries have different names
 pub names-differ : (card : List ℕ) → SoundCard card → (i j : ℕ) → UsedEntry card i → UsedEntry card j → j ≢ i → name_of (entry_on card j) ≢ name_of (entry_on card i)
 names-differ card s i j u v n e =
-    n (some-injective _ _ (sym (found_by_name card s j v) ∙ ap (entry_named (directory_of card)) e ∙ found_by_name card s i u))
+    n (same_Some _ _ (sym (found_by_name card s j v) ∙ ap (entry_named (directory_of card)) e ∙ found_by_name card s i u))
 
 -- a block in no file is not in this one
 pub not-in-file : (card : List ℕ) (b i : ℕ) → i < 208 → has b (files_before (table_of card) (directory_of card) 208) ≡ false → has b (file_on card i) ≡ false
@@ -237,7 +238,7 @@ module _ (card : List ℕ) (sound : SoundCard card) (i : ℕ) (used : UsedEntry 
 
 -- ---- the call
 
-leaves : (card name : List ℕ) (i : ℕ) → delete_verdict card name ≡ done → entry_named (directory_of card) name ≡ some i
+leaves : (card name : List ℕ) (i : ℕ) → delete_verdict card name ≡ done → entry_named (directory_of card) name ≡ Some i
     → DeleteLeaves card (deleted card name) i
 unfolding delete_verdict deleted
 leaves card name i v e =
@@ -256,8 +257,8 @@ deletes card name v = go (entry_named (directory_of card) name) refl
         not-false _ (at-accepts 31 Whole _ refl (unless-accepts (row_at 33 Whole (not (eqb (length name) 12))) _ rows).1)
 
     go : (o : Option ℕ) → entry_named (directory_of card) name ≡ o → DeleteDone card name (deleted card name)
-    go none e = absurd (false≢true (sym (ap is_some e) ∙ found))
-    go (some i) e =
+    go None e = absurd (false≢true (sym (ap is_some e) ∙ found))
+    go (Some i) e =
         let n = named-tells card name i e in
         record { at_entry = i; was_used = n.0; had_name = n.1; leaves = leaves card name i v e }
 

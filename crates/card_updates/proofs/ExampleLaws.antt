@@ -3,7 +3,7 @@ use Prim.Native.Nat.{ℕ, ◌*◌, ◌/◌, ◌≤◌, ◌<◌}
 use mathlib.Core.Path.{◌≡◌, refl, sym, ap, subst, ◌∙◌}
 use mathlib.Core.Bool.{true, false}
 use mathlib.Core.List.{List, [], ◌∷◌}
-use mathlib.Core.Option.{some}
+use Rattle.std.specs.Prelude.{Some}
 use mathlib.Core.Logic.{◌⊎◌, inl, inr}
 use native.Mathlib.Omega.{arith}
 use lib.Dec.{eqb}
@@ -85,7 +85,7 @@ empty-known = known-card no_entries no_users empty-computed
 empty-are :
     (write_rows (table no_users) (directory no_entries) (file_of_size 0x43 200) 199 ≡ done)
     × (take 200 (free_blocks (table no_users)) ≡ numbers_down 200)
-    × (lowest_unused (directory no_entries) ≡ some 0)
+    × (lowest_unused (directory no_entries) ≡ Some 0)
 unfolding table directory no_entries no_users entry_bytes unused_entry system_table word word_bytes fat_entry link_of link_at kind name_of is_used
     entry_at is_named entry_named free_blocks lowest_unused bad_lengths data_rows taken_row room_row write_rows delete_rows file_of_size
 empty-are = (refl, refl, refl)
@@ -96,7 +96,7 @@ empty_writes = write-on empty-known (file_of_size 0x43 200) 199 ∙ empty-are.0
 pub empty_taken : taken_blocks empty_card (file_of_size 0x43 200) ≡ numbers_down 200
 empty_taken = taken-on empty-known (file_of_size 0x43 200) 200 (size_of 0x43 200) ∙ empty-are.1
 
-pub empty_entry : lowest_unused (directory_of empty_card) ≡ some 0
+pub empty_entry : lowest_unused (directory_of empty_card) ≡ Some 0
 empty_entry = unused-on empty-known ∙ empty-are.2
 
 -- ---- the card with an orphan and a damaged block among the free ones
@@ -121,7 +121,7 @@ scattered-known = known-card scattered_entries scattered_users scattered-compute
 scattered-are :
     (write_rows t d (file_of_size 0x43 4) 3 ≡ done)
     × (take 4 (free_blocks t) ≡ 198 ∷ 195 ∷ 193 ∷ 192 ∷ [])
-    × (lowest_unused d ≡ some 2)
+    × (lowest_unused d ≡ Some 2)
     × (write_rows t d (file_of_size 0x43 195) 0 ≡ done)
     × (delete_rows d (replicate 12 0x41) ≡ done)
     × (write_rows t d (file_of_size 0x43 196) 0 ≡ refused_at 34 Whole)
@@ -156,7 +156,7 @@ scattered_writes = write-on scattered-known (file_of_size 0x43 4) 3 ∙ scattere
 pub scattered_taken : taken_blocks scattered_card (file_of_size 0x43 4) ≡ 198 ∷ 195 ∷ 193 ∷ 192 ∷ []
 scattered_taken = taken-on scattered-known (file_of_size 0x43 4) 4 (size_of 0x43 4) ∙ scattered-are.1
 
-pub scattered_entry : lowest_unused (directory_of scattered_card) ≡ some 2
+pub scattered_entry : lowest_unused (directory_of scattered_card) ≡ Some 2
 scattered_entry = unused-on scattered-known ∙ scattered-are.2
 
 pub scattered_fits : write_verdict scattered_card (file_of_size 0x43 195) 0 ≡ done
@@ -196,7 +196,7 @@ open-known = known-card open_entries open_users open-computed
 open-are :
     (write_rows (table open_users) (directory open_entries) (file_of_size 0x43 2) 0 ≡ done)
     × (take 2 (free_blocks (table open_users)) ≡ 199 ∷ 197 ∷ [])
-    × (lowest_unused (directory open_entries) ≡ some 0)
+    × (lowest_unused (directory open_entries) ≡ Some 0)
 unfolding table directory open_entries open_users entry_bytes unused_entry system_table word word_bytes fat_entry link_of link_at kind name_of is_used
     entry_at is_named entry_named free_blocks lowest_unused bad_lengths data_rows taken_row room_row write_rows delete_rows file_of_size
 open-are = (refl, refl, refl)
@@ -210,7 +210,7 @@ open_writes = write-on open-known (file_of_size 0x43 2) 0 ∙ open-are.0
 pub open_taken : taken_blocks open_card (file_of_size 0x43 2) ≡ 199 ∷ 197 ∷ []
 open_taken = taken-on open-known (file_of_size 0x43 2) 2 (size_of 0x43 2) ∙ open-are.1
 
-pub open_entry : lowest_unused (directory_of open_card) ≡ some 0
+pub open_entry : lowest_unused (directory_of open_card) ≡ Some 0
 open_entry = unused-on open-known ∙ open-are.2
 
 -- ---- named bytes

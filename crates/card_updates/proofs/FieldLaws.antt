@@ -3,7 +3,7 @@ use Prim.Native.Nat.{ℕ, ◌+◌, ◌-◌}
 use mathlib.Core.Path.{◌≡◌, refl, sym, ap, ◌∙◌}
 use mathlib.Core.Bool.{Bool, not, ◌&&◌}
 use mathlib.Core.List.{List, map}
-use mathlib.Core.Option.{Option, none, some}
+use Rattle.std.specs.Prelude.{Option, None, Some}
 use lib.ListN.{length, take, drop}
 use lib.Seq.{drop-drop}
 use Rattle.words.specs.Lists.{any_of, concat, has, numbers_from, keep}
@@ -124,8 +124,8 @@ module _ (directory others : List (List ℕ)) (s : (i : ℕ) → EntryAlike (ent
   same-unused = same-lowest _ _ (λ i. ap not (same-used (a i) (b i) (s i))) 0 208
 
   pub same_index : (index : ℕ) (found : Option ℕ) → index_row others index found ≡ index_row directory index found
-  same_index index none = refl
-  same_index index (some i) = rw (same_size (a i) (b i) (s i))
+  same_index index None = refl
+  same_index index (Some i) = rw (same_size (a i) (b i) (s i))
 
   pub same-listing : (start : ℕ) → ListedAlike (listed_from directory (first_used directory start)) (listed_from others (first_used others start))
   unfolding first_used
@@ -134,8 +134,8 @@ module _ (directory others : List (List ℕ)) (s : (i : ℕ) → EntryAlike (ent
       (go (lowest (λ i. is_used (a i)) start (208 - start)))
     where
       go : (found : Option ℕ) → ListedAlike (listed_from directory found) (listed_from others found)
-      go none = alike_refl (listed_from directory none)
-      go (some i) = same-listed (a i) (b i) (s i) i
+      go None = alike_refl (listed_from directory None)
+      go (Some i) = same-listed (a i) (b i) (s i) i
 
   module _ (table : List ℕ) where
     same-files : (i : ℕ) → files_before table others i ≡ files_before table directory i

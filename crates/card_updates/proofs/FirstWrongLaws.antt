@@ -3,7 +3,7 @@ use Prim.Native.Nat.{ℕ, suc, ◌≤◌, ◌<◌, zero-le}
 use mathlib.Core.Path.{◌≡◌, refl, sym, ap, subst, ◌∙◌}
 use mathlib.Core.Bool.{Bool, true, false, cond, ◌||◌, true≢false, false≢true}
 use mathlib.Core.List.{List, [], ◌∷◌}
-use mathlib.Core.Option.{Option, none, some}
+use Rattle.std.specs.Prelude.{Option, None, Some}
 use mathlib.Core.Logic.{◌↔◌, ◌≢◌, ◌⊎◌, inl, inr}
 use native.Mathlib.Omega.{arith}
 use lib.Dec.{eqb}
@@ -185,8 +185,8 @@ module _ (W : ℕ → Place → Type 0) where
   over-tells n place test k w = go (lowest test 0 k) refl
     where
       go : (o : Option ℕ) → lowest test 0 k ≡ o → Tells W n (row_over n place o)
-      go none q = inl refl
-      go (some i) q =
+      go None q = inl refl
+      go (Some i) q =
           let f = lowest-some test 0 k i q in
           inr (refl, w i (omega (arith, f.high)) f.passes)
 
@@ -199,8 +199,8 @@ pub over-fires : (n : ℕ) (place : ℕ → Place) (test : ℕ → Bool) (k i : 
 over-fires n place test k i same h w = go (lowest test 0 k) refl
   where
     go : (o : Option ℕ) → lowest test 0 k ≡ o → Fires n (place i) (row_over n place o)
-    go none q = absurd (false≢true (sym (lowest-none test 0 k q i zero-le (omega arith)) ∙ w))
-    go (some j) q =
+    go None q = absurd (false≢true (sym (lowest-none test 0 k q i zero-le (omega arith)) ∙ w))
+    go (Some j) q =
         let f = lowest-some test 0 k j q in
         let not_below : i < j → ⊥ = λ b. false≢true (sym (f.none_below i zero-le b) ∙ w) in
         (refl, omega (arith, same j, same i, not_below))

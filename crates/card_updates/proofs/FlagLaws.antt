@@ -4,7 +4,7 @@ use Prim.Native.Nat.{ℕ, ◌+◌, ◌-◌, ◌≤◌, ◌<◌}
 use mathlib.Core.Path.{◌≡◌, refl, sym, ap, ◌∙◌}
 use mathlib.Core.Bool.{Bool, true, false, cond}
 use mathlib.Core.List.{List, []}
-use mathlib.Core.Option.{Option, none, some}
+use Rattle.std.specs.Prelude.{Option, None, Some}
 use mathlib.Core.Logic.{inl, inr}
 use native.Mathlib.Omega.{arith}
 use native.Mathlib.Decide.{dec_lt}
@@ -121,8 +121,8 @@ module _ (card other : List ℕ) (same : SameBut is_flag card other) where
 
   found-block : SoundCard card → (name : List ℕ) (index : ℕ) (buffer : List ℕ) (found : Option ℕ) → entry_named d name ≡ found
       → block_read other index found buffer ≡ block_read card index found buffer
-  found-block s name index buffer none f = refl
-  found-block s name index buffer (some i) f = file-block s i index (named-tells card name i f).0.in_directory
+  found-block s name index buffer None f = refl
+  found-block s name index buffer (Some i) f = file-block s i index (named-tells card name i f).0.in_directory
 
   pub read-buffer : (name : List ℕ) (index : ℕ) (buffer : List ℕ) → read_buffer other name index buffer ≡ read_buffer card name index buffer
   unfolding read_buffer read_verdict

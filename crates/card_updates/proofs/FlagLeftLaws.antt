@@ -3,7 +3,7 @@ use Prim.Native.Nat.{ℕ, zero, suc, ◌+◌, ◌*◌, ◌≤◌, ◌<◌}
 use mathlib.Core.Path.{◌≡◌, refl, sym, ◌∙◌}
 use mathlib.Core.Bool.{Bool, true, false, cond, true≢false}
 use mathlib.Core.List.{List, [], ◌∷◌}
-use mathlib.Core.Option.{Option, none, some}
+use Rattle.std.specs.Prelude.{Option, None, Some}
 use native.Mathlib.Omega.{arith}
 use lib.ListN.{length, get_or, take, drop, replicate}
 use borrow.Author.Tests.{eqb-true}
@@ -76,8 +76,8 @@ unfolding deleted delete_verdict
 delete-both card other name same = rw (delete-verdict card other same name, named card other same name) (go (accepted (delete_verdict card name)) refl)
   where
     found : (o : Option ℕ) → SoundCard card → entry_named (directory_of card) name ≡ o → SameBut is_flag (without_found card o) (without_found other o)
-    found none s e = same
-    found (some i) s e = without-both i card other s (named-tells card name i e).0.in_directory same
+    found None s e = same
+    found (Some i) s e = without-both i card other s (named-tells card name i e).0.in_directory same
 
     go : (t : Bool) → accepted (delete_verdict card name) ≡ t
         → SameBut is_flag (cond t (without_found card (entry_named (directory_of card) name)) card) (cond t (without_found other (entry_named (directory_of card) name)) other)
@@ -100,7 +100,7 @@ module _ (card other : List ℕ) (same : SameBut is_flag card other) (byte other
   entries-alike i first h (suc zero) n = absurd (true≢false (sym (flag-here i h) ∙ n))
   entries-alike i first h (suc (suc j)) n = refl
 
-  file-both : (v : write_verdict card f offset ≡ done) (i : ℕ) → lowest_unused (directory_of card) ≡ some i
+  file-both : (v : write_verdict card f offset ≡ done) (i : ℕ) → lowest_unused (directory_of card) ≡ Some i
       → SameBut is_flag (with_file card 0x33 f offset (taken_blocks card f) i) (with_file other 0x33 g offset (taken_blocks card f) i)
   unfolding with_file
   file-both v i e =
@@ -124,8 +124,8 @@ module _ (card other : List ℕ) (same : SameBut is_flag card other) (byte other
     where
       at : (o : Option ℕ) → write_verdict card f offset ≡ done → lowest_unused (directory_of card) ≡ o
           → SameBut is_flag (with_file_at card 0x33 f offset (taken_blocks card f) o) (with_file_at other 0x33 g offset (taken_blocks card f) o)
-      at none v e = same
-      at (some i) v e = file-both v i e
+      at None v e = same
+      at (Some i) v e = file-both v i e
 
       go : (t : Bool) → accepted (write_verdict card f offset) ≡ t
           → SameBut is_flag (cond t (with_file_at card 0x33 f offset (taken_blocks card f) (lowest_unused (directory_of card))) card)

@@ -2,7 +2,7 @@
 use Prim.Native.Nat.{ℕ, ◌+◌, ◌≤◌, ◌<◌}
 use mathlib.Core.Path.{◌≡◌, refl, sym, ap, ◌∙◌}
 use mathlib.Core.List.{List, [], ◌∷◌}
-use mathlib.Core.Option.{some}
+use Rattle.std.specs.Prelude.{Some}
 use mathlib.Core.Logic.{◌↔◌}
 use native.Mathlib.Omega.{arith}
 use lib.ListN.{length, get_or}
@@ -49,7 +49,7 @@ module _ (card : List ℕ) (i byte : ℕ) (l : length card ≡ card_length) (h :
         entry-byte after i 1 h (omega arith) ∙ ap (λ (k : ℕ). get_or after k 0) z ∙ put_byte card (entry_place i + 1) (byte ∷ []) fits 0 (omega arith),
       )
 
-module _ (card : List ℕ) (f : NewFile) (offset : ℕ) (v : write_verdict card f offset ≡ done) (i : ℕ) (e : lowest_unused (directory_of card) ≡ some i) where
+module _ (card : List ℕ) (f : NewFile) (offset : ℕ) (v : write_verdict card f offset ≡ done) (i : ℕ) (e : lowest_unused (directory_of card) ≡ Some i) where
   left : WriteLeaves card (written card f offset) f offset i
   left = leaves card f offset (passed-rows card f offset v) i e v
 

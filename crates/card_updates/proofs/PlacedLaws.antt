@@ -3,7 +3,7 @@ use Prim.Native.Nat.{ℕ, ◌*◌, ◌≤◌, ◌<◌}
 use mathlib.Core.Path.{◌≡◌, refl, sym, ap, ◌∙◌}
 use mathlib.Core.Bool.{Bool, true, false, not, ◌||◌, true≢false, false≢true}
 use mathlib.Core.List.{List, [], ◌∷◌, map}
-use mathlib.Core.Option.{some}
+use Rattle.std.specs.Prelude.{Some}
 use mathlib.Core.Logic.{◌≢◌, ◌⊎◌, inl, inr, ⊎_elim}
 use native.Mathlib.Omega.{arith}
 use lib.ListN.{length, get_or, drop}
@@ -157,10 +157,10 @@ module _ (card : List ℕ) (sound : SoundCard card) (k : ℕ) (f : NewFile) (off
       (omega (arith, sized, size_is, p.not_empty)) (omega (arith, sized, size_is, p.at_most_200))
       (λ d. omega (arith, offset_is, sized, size_is, p.right_offset (sym kind_is ∙ d)))
 
-  chained : chain (table_of after) (size (entry_on after i)) (first_block (entry_on after i)) ≡ some blocks
+  chained : chain (table_of after) (size (entry_on after i)) (first_block (entry_on after i)) ≡ Some blocks
   chained = rw (table_is, sized, size_is, first-is) (go blocks p.not_empty p.holds)
     where
-      go : (blocks : List ℕ) → 1 ≤ length blocks → HoldsBytes blocks f.content → chain (table_of (with_blocks card blocks f.content)) (length blocks) (get_or blocks 0 0) ≡ some blocks
+      go : (blocks : List ℕ) → 1 ≤ length blocks → HoldsBytes blocks f.content → chain (table_of (with_blocks card blocks f.content)) (length blocks) (get_or blocks 0 0) ≡ Some blocks
       go [] n h = absurd (omega arith)
       go (b ∷ blocks) n h = links-chain _ (blocks-links b blocks card f.content long h)
 

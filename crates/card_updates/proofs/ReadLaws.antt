@@ -3,7 +3,7 @@ use Prim.Native.Nat.{ℕ, ◌*◌, ◌<◌}
 use mathlib.Core.Path.{◌≡◌, refl, sym, ap, subst, ◌∙◌}
 use mathlib.Core.Bool.{not, ◌||◌, true≢false}
 use mathlib.Core.List.{List}
-use mathlib.Core.Option.{Option, none, some}
+use Rattle.std.specs.Prelude.{Option, None, Some}
 use mathlib.Core.Logic.{◌≢◌}
 use native.Mathlib.Omega.{arith}
 use native.Mathlib.Decide.{ℕ_discrete}
@@ -41,13 +41,13 @@ still-reads card after s t j u same index buffer h l =
 
 -- what a search by name finds on both cards: nothing, or a file that is the same
 data FoundAlike (card after name : List ℕ) : Type 0 where
-  nowhere : entry_named (directory_of card) name ≡ none → entry_named (directory_of after) name ≡ none → FoundAlike card after name
-  same_place : (j : ℕ) → entry_named (directory_of card) name ≡ some j → entry_named (directory_of after) name ≡ some j → SameFile card after j
+  nowhere : entry_named (directory_of card) name ≡ None → entry_named (directory_of after) name ≡ None → FoundAlike card after name
+  same_place : (j : ℕ) → entry_named (directory_of card) name ≡ Some j → entry_named (directory_of after) name ≡ Some j → SameFile card after j
       → FoundAlike card after name
 
 -- a read that is done has its index below the file's size, and 512 bytes to fill
 done-tells : (card name : List ℕ) (index : ℕ) (buffer : List ℕ) (j : ℕ) → (read_verdict card name index buffer).number ≡ 0
-    → entry_named (directory_of card) name ≡ some j → (index < size (entry_on card j)) × (length buffer ≡ 512)
+    → entry_named (directory_of card) name ≡ Some j → (index < size (entry_on card j)) × (length buffer ≡ 512)
 unfolding read_verdict read_rows
 done-tells card name index buffer j z e =
     let misnamed = not (eqb (length name) 12) in
@@ -101,8 +101,8 @@ module _ (card after : List ℕ) (s : SoundCard card) (t : SoundCard after) (i :
           (same-used after card j e u, ap name_of e ∙ n)
 
       go : (o : Option ℕ) → entry_named (directory_of card) name ≡ o → FoundAlike card after name
-      go none e = nowhere e (none_named after name (λ j u n. not_named card name e j (had-it j u n).0 (had-it j u n).1))
-      go (some j) e =
+      go None e = nowhere e (none_named after name (λ j u n. not_named card name e j (had-it j u n).0 (had-it j u n).1))
+      go (Some j) e =
           let n = named-tells card name j e in
           let same = others j n.0.in_directory (elsewhere card name i not-before j n.0 n.1) in
           let named = ap name_of same.entry ∙ n.1 in

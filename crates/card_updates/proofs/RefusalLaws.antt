@@ -4,7 +4,7 @@ use Prim.Native.Nat.{ℕ, ◌*◌, ◌%◌, ◌≤◌, ◌<◌}
 use mathlib.Core.Path.{◌≡◌, refl, sym, ap, ◌∙◌}
 use mathlib.Core.Bool.{Bool, true, false, not, cond, ◌||◌, true≢false, or-true}
 use mathlib.Core.List.{List}
-use mathlib.Core.Option.{Option, none, some}
+use Rattle.std.specs.Prelude.{Option, None, Some}
 use mathlib.Core.Logic.{◌≢◌, ⊎_elim}
 use native.Mathlib.Omega.{arith}
 use lib.Dec.{eqb, ltb, leb}
@@ -98,9 +98,9 @@ module _ (card name : List ℕ) where
   no-name-tells e i u d = go (lowest (λ j. is_named name (entry_on card j)) 0 208) refl e
     where
       go : (o : Option ℕ) → lowest (λ j. is_named name (entry_on card j)) 0 208 ≡ o → is_some o ≡ false → ⊥
-      go none q h =
+      go None q h =
           true≢false (sym (used-named i u d) ∙ lowest-none (λ j. is_named name (entry_on card j)) 0 208 q i (omega arith) (omega (arith, u.in_directory)))
-      go (some j) q h = true≢false h
+      go (Some j) q h = true≢false h
 
   -- ---- the row
 
@@ -260,8 +260,8 @@ plain_at n p true h z = absurd (h z)
 plain_at n p false h z = refl
 
 plain_over : (n : ℕ) (place : ℕ → Place) (o : Option ℕ) → n ≢ 0 → Plain (row_over n place o)
-plain_over n place none h z = refl
-plain_over n place (some i) h z = absurd (h z)
+plain_over n place None h z = refl
+plain_over n place (Some i) h z = absurd (h z)
 
 plain-unless : (v w : Verdict) → Plain v → Plain w → Plain (unless_refused v w)
 plain-unless v w a b = go (accepted v) refl

@@ -5,7 +5,7 @@ use Prim.Native.Nat.{ℕ, zero, suc, ◌+◌, ◌≤◌, ◌<◌}
 use mathlib.Core.Path.{◌≡◌, refl, sym, ap, subst, ◌∙◌}
 use mathlib.Core.Bool.{Bool, true, false, not, ◌||◌, true≢false, and-false}
 use mathlib.Core.List.{List, [], ◌∷◌, map}
-use mathlib.Core.Option.{some}
+use Rattle.std.specs.Prelude.{Some}
 use mathlib.Core.Logic.{◌≢◌}
 use native.Mathlib.Omega.{arith}
 use native.Mathlib.Decide.{ℕ_discrete}
@@ -57,8 +57,8 @@ pub links-agree : (t u : List ℕ) {left b : ℕ} {bs : List ℕ} → Links t le
 links-agree t u (ends q) a = ends (a.0 ∙ q)
 links-agree t u (goes q l) a = goes (a.0 ∙ q) (links-agree t u l a.1)
 
-pub chain-agrees : (t u : List ℕ) (left b : ℕ) (bs : List ℕ) → chain t left b ≡ some bs → ((x : ℕ) → has x bs ≡ true → link_at u x ≡ link_at t x)
-    → chain u left b ≡ some bs
+pub chain-agrees : (t u : List ℕ) (left b : ℕ) (bs : List ℕ) → chain t left b ≡ Some bs → ((x : ℕ) → has x bs ≡ true → link_at u x ≡ link_at t x)
+    → chain u left b ≡ Some bs
 chain-agrees t u left b bs e f = links-chain u (links-agree t u (chain-links t left b bs e) (all_in (λ x. link_at u x ≡ link_at t x) bs f))
 
 links-good : (t : List ℕ) {left b : ℕ} {bs : List ℕ} → Links t left b bs → All (λ x. is_bad (link_at t x) ≡ false) bs
@@ -66,7 +66,7 @@ links-good t (ends q) = (rw q, tt)
 links-good t (goes q l) = (rw q, links-good t l)
 
 -- a used entry whose chain is there has it as its file
-pub chain-file : (t entry bs : List ℕ) → is_used entry ≡ true → chain t (size entry) (first_block entry) ≡ some bs → file_of t entry ≡ bs
+pub chain-file : (t entry bs : List ℕ) → is_used entry ≡ true → chain t (size entry) (first_block entry) ≡ Some bs → file_of t entry ≡ bs
 unfolding file_of chain_of
 chain-file t entry bs u e = rw (u, e)
 
@@ -83,7 +83,7 @@ module _ (card : List ℕ) (sound : SoundCard card) where
       go true u = refl
       go false u = sym (ap (has b) (no_file (table_of card) (entry_on card j) u)) ∙ e
 
-  pub file-is-chain : (j : ℕ) → UsedEntry card j → chain (table_of card) (size (entry_on card j)) (first_block (entry_on card j)) ≡ some (file_on card j)
+  pub file-is-chain : (j : ℕ) → UsedEntry card j → chain (table_of card) (size (entry_on card j)) (first_block (entry_on card j)) ≡ Some (file_on card j)
   file-is-chain j u = file-chain (entry_on card j) u.is_used_lem (table_of card) (rows.chains j u.in_directory)
 
   module _ (j b : ℕ) (h : j < 208) (e : has b (file_on card j) ≡ true) where
@@ -122,7 +122,7 @@ pub record Replaced (card after : List ℕ) (i : ℕ) (new : List ℕ) : Type 0 
   -- the entry: unused, or right, with its chain and a name of its own
   pub right : wrong_entry (entry_on after i) ≡ false
   pub unused : is_used (entry_on after i) ≡ false → new ≡ []
-  pub chained : is_used (entry_on after i) ≡ true → chain (table_of after) (size (entry_on after i)) (first_block (entry_on after i)) ≡ some new
+  pub chained : is_used (entry_on after i) ≡ true → chain (table_of after) (size (entry_on after i)) (first_block (entry_on after i)) ≡ Some new
   pub own_name : is_used (entry_on after i) ≡ true → (j : ℕ) → UsedEntry card j → j ≢ i → name_of (entry_on card j) ≢ name_of (entry_on after i)
   pub game : is_game (entry_on after i) ≡ true → NewGame card after i new
 
@@ -158,7 +158,7 @@ module _ (card : List ℕ) (sound : SoundCard card) (after : List ℕ) (i : ℕ)
       (in-one-file card sound j b h e i r.in_directory (λ d. n (sym d))) (other-not-new j b h n e))
 
   other-chain : (j : ℕ) → UsedEntry card j → j ≢ i
-      → chain (table_of after) (size (entry_on card j)) (first_block (entry_on card j)) ≡ some (file_on card j)
+      → chain (table_of after) (size (entry_on card j)) (first_block (entry_on card j)) ≡ Some (file_on card j)
   other-chain j u n =
       chain-agrees (table_of card) (table_of after) _ _ (file_on card j) (file-is-chain card sound j u)
       (λ b e. other-links j b u.in_directory n e)

@@ -3,7 +3,7 @@ use Prim.Native.Nat.{ℕ, zero, suc, ◌%◌, ◌≤◌, ◌<◌}
 use mathlib.Core.Path.{◌≡◌, refl, sym, ap, subst, ◌∙◌}
 use mathlib.Core.Bool.{Bool, true, false, not, ◌||◌, true≢false, false≢true}
 use mathlib.Core.List.{List, [], ◌∷◌, ◌++◌}
-use mathlib.Core.Option.{Option, none, some}
+use Rattle.std.specs.Prelude.{Option, None, Some}
 use mathlib.Core.Logic.{◌≢◌, inl}
 use native.Mathlib.Omega.{arith}
 use lib.Dec.{eqb, ltb}
@@ -132,18 +132,18 @@ module _ (card : List ℕ) (n : ℕ) where
 
 -- ---- the call
 
-pub over_none : (n : ℕ) (place : ℕ → Place) (o : Option ℕ) → eqb n 0 ≡ false → accepted (row_over n place o) ≡ true → o ≡ none
-over_none n place none h e = refl
-over_none n place (some i) h e = absurd (false≢true (sym h ∙ e))
+pub over_none : (n : ℕ) (place : ℕ → Place) (o : Option ℕ) → eqb n 0 ≡ false → accepted (row_over n place o) ≡ true → o ≡ None
+over_none n place None h e = refl
+over_none n place (Some i) h e = absurd (false≢true (sym h ∙ e))
 
-pub not_named : (card name : List ℕ) → entry_named (directory_of card) name ≡ none → (j : ℕ) → UsedEntry card j → name_of (entry_on card j) ≢ name
+pub not_named : (card name : List ℕ) → entry_named (directory_of card) name ≡ None → (j : ℕ) → UsedEntry card j → name_of (entry_on card j) ≢ name
 unfolding entry_named is_named
 not_named card name e j u d =
     let n = lowest-none (λ i. is_named name (entry_on card i)) 0 208 e j (omega arith) (omega (arith, u.in_directory)) in
     let m : is_named name (entry_on card j) ≡ true = rw u.is_used_lem (eq-same _ _ d) in
     true≢false (sym m ∙ n)
 
-pub unused-at : (card : List ℕ) (i : ℕ) → lowest_unused (directory_of card) ≡ some i → IsLowestUnused card i
+pub unused-at : (card : List ℕ) (i : ℕ) → lowest_unused (directory_of card) ≡ Some i → IsLowestUnused card i
 unfolding lowest_unused
 unused-at card i e =
     let l = lowest-some (λ j. not (is_used (entry_on card j))) 0 208 i e in
@@ -181,7 +181,7 @@ pub record PassedRows (card : List ℕ) (f : NewFile) (offset : ℕ) : Type 0 wh
   pub lengths : RightLengths f
   pub few : blocks_of f ≤ 200
   pub offset_below : offset < blocks_of f
-  pub unnamed : entry_named (directory_of card) f.name ≡ none
+  pub unnamed : entry_named (directory_of card) f.name ≡ None
   pub room : blocks_of f ≤ length (free_blocks (table_of card))
 
 pub passed-rows : (card : List ℕ) (f : NewFile) (offset : ℕ) → write_verdict card f offset ≡ done → PassedRows card f offset
@@ -225,7 +225,7 @@ module _ (card : List ℕ) (f : NewFile) (offset : ℕ) (p : PassedRows card f o
   unfolding taken_blocks
   were_free b e = all-has (λ b. link_at table b ≡ Free) blocks b (all_take (λ b. link_at table b ≡ Free) (blocks_of f) (free_blocks table) (free-are table)) e
 
-  module _ (i : ℕ) (free : lowest_unused (directory_of card) ≡ some i) where
+  module _ (i : ℕ) (free : lowest_unused (directory_of card) ≡ Some i) where
     is-placing : Placing card 0x33 f offset blocks i
     is-placing = record {
       in_directory = (unused-at card i free).in_directory;
@@ -263,8 +263,8 @@ writes card f offset v = go (lowest_unused (directory_of card)) refl
     passed = passed-rows card f offset v
 
     go : (o : Option ℕ) → lowest_unused (directory_of card) ≡ o → WriteDone card f offset (written card f offset)
-    go none e = absurd (false≢true (sym (ap is_some e) ∙ never_full card passed.is_sound))
-    go (some i) e = record { at_entry = i; leaves = leaves card f offset passed i e v }
+    go None e = absurd (false≢true (sym (ap is_some e) ∙ never_full card passed.is_sound))
+    go (Some i) e = record { at_entry = i; leaves = leaves card f offset passed i e v }
 
 pub write_refused : (card : List ℕ) (f : NewFile) (offset : ℕ) → (write_verdict card f offset).number ≢ 0 → written card f offset ≡ card
 unfolding written

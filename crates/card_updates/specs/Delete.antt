@@ -1,7 +1,7 @@
 -- Deleting a file: request 1. "delete any file by name"
 -- Assumes nothing.
 use Rattle.std.specs.Prelude.{ℕ, not, cond, List, [], ◌∷◌, eqb, length, replicate}
-use Rattle.std.proofs.Math.Option.{Option, none, some}
+use Rattle.std.specs.Prelude.{Option, None, Some}
 use Rattle.words.specs.Lists.{is_some}
 use Rattle.verdicts.specs.declared.Place.TheVariants.{Whole}
 use Rattle.verdicts.specs.declared.Verdict.{Verdict}
@@ -31,8 +31,8 @@ without_file card i = with_part (freed card (file_on card i)) (entry_place i) (r
 
 -- 31 has refused where there is none.
 abbrev pub without_found : List ℕ → Option ℕ → List ℕ
-without_found card none = card
-without_found card (some i) = without_file card i
+without_found card None = card
+without_found card (Some i) = without_file card i
 
 -- The card that a delete leaves. "A refusal changes no byte of any buffer."
 unfoldable pub deleted : List ℕ → List ℕ → List ℕ

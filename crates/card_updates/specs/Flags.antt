@@ -2,7 +2,7 @@
 -- protected or copyable and the raw byte." A protected file is read and deleted like any other.
 -- Assumes nothing.
 use Rattle.std.specs.Prelude.{ℕ, ◌+◌, ◌%◌, ◌≤◌, ◌<◌, ◌≡◌, List, [], ◌∷◌, ◌↔◌, length}
-use Rattle.std.proofs.Math.Option.{some}
+use Rattle.std.specs.Prelude.{Some}
 use Rattle.verdicts.specs.Rows.{done}
 use Rattle.card_model.specs.declared.CopyProtection.TheVariants.{Protected}
 use Rattle.card_model.specs.declared.Listing.{Listing}
@@ -48,7 +48,7 @@ pub record FlagTheorems : Type 0 where
       × SameButFlags (written card (given_file byte name time content) offset) (written other (given_file other_byte name time content) offset)
   -- a write hands its flag on: the listing of the new entry gives it
   pub write_lists : (card : List ℕ) (byte : ℕ) (name time content : List ℕ) (offset i : ℕ)
-      → write_verdict card (given_file byte name time content) offset ≡ done → lowest_unused (directory_of card) ≡ some i
+      → write_verdict card (given_file byte name time content) offset ≡ done → lowest_unused (directory_of card) ≡ Some i
       → ((list_of (written card (given_file byte name time content) offset) i).entry ≡ i)
       × ((list_of (written card (given_file byte name time content) offset) i).flag ≡ byte)
       × (((list_of (written card (given_file byte name time content) offset) i).protection ≡ Protected) ↔ (byte ≡ 0xFF))

@@ -1,7 +1,7 @@
 -- What is proved of a write and of a delete.
 -- Assumes nothing.
 use Rattle.std.specs.Prelude.{ℕ, ◌+◌, ◌*◌, ◌≤◌, ◌<◌, ◌≡◌, true, false, List, [], ◌∷◌, ◌++◌, ◌≢◌, ◌⊎◌, length, get_or, take, drop, set, replicate}
-use Rattle.std.proofs.Math.Option.{none, some}
+use Rattle.std.specs.Prelude.{None, Some}
 use Rattle.words.specs.Lists.{has, is_some}
 use Rattle.verdicts.specs.Rows.{done, refused_at}
 use Rattle.verdicts.specs.declared.Place.TheVariants.{Whole, Entry}
@@ -81,7 +81,7 @@ pub record DeleteLeaves (card after : List ℕ) (i : ℕ) : Type 0 where
   pub entry_zeros : entry_on after i ≡ replicate 32 0
   pub data_left : (b : ℕ) → b < 200 → block_at after b ≡ block_at card b
   -- the name is gone
-  pub gone : entry_named (directory_of after) (name_of (entry_on card i)) ≡ none
+  pub gone : entry_named (directory_of after) (name_of (entry_on card i)) ≡ None
   -- "every other file as before; .. no byte changes that isn't named"
   pub others : (j : ℕ) → j < 208 → j ≢ i → SameFile card after j
   pub unowned_kept : (b : ℕ) → Unowned card b → KeptBlock card after b
@@ -97,7 +97,7 @@ pub record DeleteDone (card name after : List ℕ) : Type 0 where
 -- "The new file reads as given": the file at entry i is found by its name and has the kind, fields, blocks and bytes given.
 pub record NewFileAt (after : List ℕ) (i kind_given : ℕ) (f : NewFile) (offset : ℕ) (blocks : List ℕ) : Type 0 where
   pub used : UsedEntry after i
-  pub found : entry_named (directory_of after) f.name ≡ some i
+  pub found : entry_named (directory_of after) f.name ≡ Some i
   pub kind_is : kind (entry_on after i) ≡ kind_given
   pub flag_is : flag (entry_on after i) ≡ f.flag
   pub name_is : name_of (entry_on after i) ≡ f.name
@@ -201,13 +201,13 @@ pub record UpdateTheorems : Type 0 where
   -- not vacuous: 200 blocks onto an empty card
   pub empty_writes : write_verdict empty_card (file_of_size 0x43 200) 199 ≡ done
   pub empty_taken : taken_blocks empty_card (file_of_size 0x43 200) ≡ numbers_down 200
-  pub empty_entry : lowest_unused (directory_of empty_card) ≡ some 0
+  pub empty_entry : lowest_unused (directory_of empty_card) ≡ Some 0
   -- a card with files, an orphan and a damaged block between its free ones; all that are free are taken, and one more is refused
   pub scattered_sound : SoundCard scattered_card
   pub scattered_orphans : orphans_on scattered_card ≡ 1
   pub scattered_writes : write_verdict scattered_card (file_of_size 0x43 4) 3 ≡ done
   pub scattered_taken : taken_blocks scattered_card (file_of_size 0x43 4) ≡ 198 ∷ 195 ∷ 193 ∷ 192 ∷ []
-  pub scattered_entry : lowest_unused (directory_of scattered_card) ≡ some 2
+  pub scattered_entry : lowest_unused (directory_of scattered_card) ≡ Some 2
   pub scattered_fits : write_verdict scattered_card (file_of_size 0x43 195) 0 ≡ done
   pub scattered_deletes : delete_verdict scattered_card (replicate 12 0x41) ≡ done
   pub scattered_refused : ScatteredRefusals
@@ -215,12 +215,12 @@ pub record UpdateTheorems : Type 0 where
   pub open_sound : SoundCard open_card
   pub open_writes : write_verdict open_card (file_of_size 0x43 2) 0 ≡ done
   pub open_taken : taken_blocks open_card (file_of_size 0x43 2) ≡ 199 ∷ 197 ∷ []
-  pub open_entry : lowest_unused (directory_of open_card) ≡ some 0
+  pub open_entry : lowest_unused (directory_of open_card) ≡ Some 0
   -- worked on short lists: a part, the free ones of five blocks, the lowest unused of three entries, an entry; two blocks with two bytes of
   -- data, and a table entry that is freed, on cards of so few bytes that what is put stands behind them
   pub short_part : with_part (1 ∷ 2 ∷ 3 ∷ 4 ∷ 5 ∷ []) 1 (8 ∷ 9 ∷ []) ≡ 1 ∷ 8 ∷ 9 ∷ 4 ∷ 5 ∷ []
   pub short_free : free_blocks (0xFFFC ∷ 0xFFFF ∷ 4 ∷ 0xFFFC ∷ 0xFFFA ∷ []) ≡ 3 ∷ 0 ∷ []
-  pub short_unused : lowest_unused ((0x33 ∷ []) ∷ (0x00 ∷ 0x41 ∷ []) ∷ (0xCC ∷ []) ∷ []) ≡ some 1
+  pub short_unused : lowest_unused ((0x33 ∷ []) ∷ (0x00 ∷ 0x41 ∷ []) ∷ (0xCC ∷ []) ∷ []) ≡ Some 1
   pub short-entry :
       new_entry 0x33 (file_of_size 0x43 2) 1 199
       ≡ 0x33 ∷ 0xFE ∷ 199 ∷ 0 ∷ replicate 12 0x43 ++ (replicate 8 0x20 ++ (2 ∷ 0 ∷ 1 ∷ 0 ∷ 0 ∷ 0 ∷ 0 ∷ 0 ∷ []))

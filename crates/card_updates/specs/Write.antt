@@ -2,7 +2,7 @@
 -- to 200 blocks)"
 -- Assumes nothing.
 use Rattle.std.specs.Prelude.{ℕ, zero, suc, ◌/◌, ◌%◌, Bool, not, cond, ◌||◌, List, [], ◌∷◌, ◌++◌, eqb, ltb, leb, length, get_or, take, drop, replicate}
-use Rattle.std.proofs.Math.Option.{Option, none, some}
+use Rattle.std.specs.Prelude.{Option, None, Some}
 use Rattle.words.specs.Lists.{keep}
 use Rattle.words.specs.Search.{lowest}
 use Rattle.words.specs.Words.{word_bytes}
@@ -113,8 +113,8 @@ with_file card kind f offset blocks i =
 
 -- There is always an unused entry: `never_full`.
 abbrev pub with_file_at : List ℕ → ℕ → NewFile → ℕ → List ℕ → Option ℕ → List ℕ
-with_file_at card kind f offset blocks none = card
-with_file_at card kind f offset blocks (some i) = with_file card kind f offset blocks i
+with_file_at card kind f offset blocks None = card
+with_file_at card kind f offset blocks (Some i) = with_file card kind f offset blocks i
 
 -- "Blocks are taken in file order from the highest free one downwards"
 unfoldable pub taken_blocks : List ℕ → NewFile → List ℕ

@@ -107,9 +107,9 @@ module _ (a : ℕ) where
   -- the quotient shifted is the word shifted
   quotient-half : quotient * 4294967296 % 18446744073709551616 ≡ half
   quotient-half =
-      let none : half * 4294967296 % 18446744073709551616 ≡ 0 = omega arith in
+      let None : half * 4294967296 % 18446744073709551616 ≡ 0 = omega arith in
       ap (λ (x : ℕ). x % 18446744073709551616) (xor-shl a half 32) ∙ xor_mod (a * 4294967296) (half * 4294967296) 64
-      ∙ ap (bit_xor half) none ∙ xor_zero_r half
+      ∙ ap (bit_xor half) None ∙ xor_zero_r half
 
   pub three-fold : (b c : ℕ) → a < 18446744073709551616
       → rem_two (bit_xor (bit_xor b (quotient / 4294967296)) (quotient * 16777216 % 18446744073709551616)) (bit_xor (bit_xor c (quotient / 1099511627776)) quotient)

@@ -46,7 +46,7 @@ half_lt k l h = let e : 2 ^ suc k ≡ 2 ^ k * 2 = pow-suc 2 k in omega arith
 pub rem-cat : (j k h l : ℕ) → l < 2 ^ k → rem (j + k) (h * 2 ^ k + l) ≡ bit_xor (shifts k (rem j h)) (rem k l)
 unfolding rem shifts
 rem-cat j zero h l lt =
-    let none : l ≡ 0 = omega arith in
+    let None : l ≡ 0 = omega arith in
     let same : h * 1 + l ≡ h = omega arith in
     ap₂ rem (add-zero j) same ∙ sym (xor_zero_r (rem j h))
 rem-cat j (suc k) h l lt =

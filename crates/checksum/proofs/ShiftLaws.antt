@@ -39,8 +39,8 @@ shift_split n h = by (leb 32768 n) refl
         let one : n / 32768 ≡ 1 = omega (arith, leb-true 32768 n e) in
         ap (λ (x : ℕ). bit_xor (n * 2 % 65536) (x * 4129)) (sym one)
     by false e =
-        let none : n / 32768 ≡ 0 = omega (arith, leb-false 32768 n e) in
-        sym (ap (λ (x : ℕ). bit_xor (n * 2 % 65536) (x * 4129)) none ∙ xor_zero_r (n * 2 % 65536))
+        let None : n / 32768 ≡ 0 = omega (arith, leb-false 32768 n e) in
+        sym (ap (λ (x : ℕ). bit_xor (n * 2 % 65536) (x * 4129)) None ∙ xor_zero_r (n * 2 % 65536))
 
 bits-times : (x y : ℕ) → x < 2 → y < 2 → bit_xor x y * 4129 ≡ bit_xor (x * 4129) (y * 4129)
 bits-times zero y hx hy = refl

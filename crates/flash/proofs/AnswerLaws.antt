@@ -4,7 +4,7 @@ use Prim.Native.Nat.{ℕ}
 use mathlib.Core.Path.{◌≡◌, refl, sym, ap, ◌∙◌}
 use mathlib.Core.Bool.{false, cond}
 use mathlib.Core.List.{List, [], ◌∷◌}
-use mathlib.Core.Option.{Option, none, some}
+use Rattle.std.specs.Prelude.{Option, None, Some}
 use mathlib.Core.Logic.{◌≢◌}
 use native.Mathlib.Omega.{arith}
 use native.Mathlib.Decide.{ℕ_discrete}
@@ -57,8 +57,8 @@ module _ (image : List ℕ) (partition : ℕ) (passed : refusal image partition 
   next-done start r e = rw e (go (lowest_live image start) refl)
     where
       go : (o : Option ℕ) → lowest_live image start ≡ o → Answered image (on_whole (next_live partition start)) image (next_answer (next_of o))
-      go none q = answer-refused image (on_whole (next_live partition start)) 7 (rw (passed, q)) (λ z. omega (arith, z))
-      go (some n) q = rw (sym (ap to_list q)) (answer-done image (on_whole (next_live partition start)) (rw (passed, q)))
+      go None q = answer-refused image (on_whole (next_live partition start)) 7 (rw (passed, q)) (λ z. omega (arith, z))
+      go (Some n) q = rw (sym (ap to_list q)) (answer-done image (on_whole (next_live partition start)) (rw (passed, q)))
 
   -- a read, and its buffer
   module _ (n : ℕ) (buffer : List ℕ) where
@@ -71,9 +71,9 @@ module _ (image : List ℕ) (partition : ℕ) (passed : refusal image partition 
     unfolding read_buffer
     read_done code left e l = go (ℕ_discrete (read_rows image n buffer) 0)
       where
-        filled : (o : Option (List ℕ)) → o ≢ none → or_buffer o buffer ∷ [] ≡ to_list o
-        filled none h = absurd (h refl)
-        filled (some page) h = refl
+        filled : (o : Option (List ℕ)) → o ≢ None → or_buffer o buffer ∷ [] ≡ to_list o
+        filled None h = absurd (h refl)
+        filled (Some page) h = refl
 
         go : Dec (read_rows image n buffer ≡ 0) → Answered image (on_page (read partition n buffer)) image (code_answer code (left ∷ []))
         go (yes z) =

@@ -2,7 +2,7 @@
 use Prim.Native.Nat.{ℕ}
 use mathlib.Core.Path.{◌≡◌, refl, sym, ap, ◌∙◌}
 use mathlib.Core.List.{List}
-use mathlib.Core.Option.{Option, none, some}
+use Rattle.std.specs.Prelude.{Option, None, Some}
 use native.Mathlib.Omega.{arith}
 use lib.ListN.{length, get_or}
 use Rattle.flash_model.specs.Measures.{capacity}
@@ -18,12 +18,12 @@ use Rattle.flash.specs.declared.LiveNumber.TheVariants as live_numbers
 -- ---- the next live number
 
 pub next-found : (o : Option ℕ) (n : ℕ) → as_lowest o ≡ lowest.Hit n → live_numbers.Hit n ≡ next_of o
-next-found none n e = let z : ◌≡◌ {A = ℕ} 0 1 = cc in absurd (omega arith)
-next-found (some m) n e = let z : m ≡ n = cc in ap (λ (i : ℕ). live_numbers.Hit i) (sym z)
+next-found None n e = let z : ◌≡◌ {A = ℕ} 0 1 = cc in absurd (omega arith)
+next-found (Some m) n e = let z : m ≡ n = cc in ap (λ (i : ℕ). live_numbers.Hit i) (sym z)
 
 pub next-missing : (o : Option ℕ) → as_lowest o ≡ lowest.Nothing → live_numbers.Refused 7 ≡ next_of o
-next-missing none e = refl
-next-missing (some m) e = let z : ◌≡◌ {A = ℕ} 0 1 = cc in absurd (omega arith)
+next-missing None e = refl
+next-missing (Some m) e = let z : ◌≡◌ {A = ℕ} 0 1 = cc in absurd (omega arith)
 
 -- ---- the counts
 

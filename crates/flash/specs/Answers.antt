@@ -1,7 +1,7 @@
 -- What the calls' answers are as document 01's numbers, values and buffers.
 -- Assumes nothing.
 use Rattle.std.specs.Prelude.{ℕ, List, [], ◌∷◌, length}
-use Rattle.std.proofs.Math.Option.{Option, none, some}
+use Rattle.std.specs.Prelude.{Option, None, Some}
 use Rattle.flash_model.specs.Measures as sizes
 use Rattle.flash_model.specs.Partition as model
 use Rattle.flash_model.specs.Calls.{Reply, code_answer}
@@ -31,5 +31,5 @@ counts_of image = record { version = model.version image; capacity = sizes.capac
 
 -- "past the top it gives 7"
 abbrev pub next_of : Option ℕ → LiveNumber
-next_of none = live_numbers.Refused 7
-next_of (some n) = Hit n
+next_of None = live_numbers.Refused 7
+next_of (Some n) = Hit n

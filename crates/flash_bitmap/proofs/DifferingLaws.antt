@@ -4,7 +4,7 @@ use Prim.Native.Nat.{ℕ, ◌+◌, ◌*◌, ◌-◌, ◌/◌, ◌%◌, ◌^◌, 
 use mathlib.Core.Path.{◌≡◌, sym, ap, ◌∙◌}
 use mathlib.Core.Bool.{Bool, true, true≢false}
 use mathlib.Core.List.{List}
-use mathlib.Core.Option.{none}
+use Rattle.std.specs.Prelude.{None}
 use native.Mathlib.Omega.{arith}
 use native.Mathlib.Decide.{dec_le}
 use native.Mathlib.Nat.{mod-lt, zero-lt-suc}
@@ -87,7 +87,7 @@ module _ {image : List ℕ} {size end bitmap blocks : ℕ} (o : HasMeasures imag
       lowest-pass (differs image byte) (first_bitmap (length image)) (i * 8 + 1) ((to - bitmap) * 8 + 1) (omega (arith, run.low))
       (λ k a b. alike-passed image byte k (byte_at ((k - 1) / 8) ∙ run.alike (bitmap + (k - 1) / 8) (omega arith) (omega arith)))
 
-  pub run-to-end : to ≡ bitmap + (blocks + 7) / 8 → lowest_differing image byte (i * 8 + 1) ≡ none
+  pub run-to-end : to ≡ bitmap + (blocks + 7) / 8 → lowest_differing image byte (i * 8 + 1) ≡ None
   unfolding lowest_differing
   run-to-end t =
       run-passed ∙ lowest-end (differs image byte) ((to - bitmap) * 8 + 1) (first_bitmap (length image)) (omega (arith, end_is, (measures-known o).first_bitmap_lem))

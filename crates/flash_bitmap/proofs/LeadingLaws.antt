@@ -2,7 +2,7 @@
 use Prim.Native.Nat.{ℕ, ◌+◌, ◌-◌, ◌≤◌, ◌<◌}
 use mathlib.Core.Path.{◌≡◌, refl, ap, ◌∙◌}
 use mathlib.Core.Bool.{Bool, false, not, ◌||◌}
-use mathlib.Core.Option.{none, some}
+use Rattle.std.specs.Prelude.{None, Some}
 use native.Mathlib.Omega.{arith}
 use lib.Count.{count_leading_zeros, leading_of_zero}
 use borrow.Author.Tests.{not-false}
@@ -39,7 +39,7 @@ leading-zeros-place = record { in_zero = (zero-none, leading_of_zero 8); in_othe
 -- ---- the lowest block
 
 module _ {byte z : ℕ} (highest : HighestOne byte z) (first end : ℕ) where
-  pub lowest-in-byte-at : first + z < end → lowest_in_byte byte first end ≡ some (first + z)
+  pub lowest-in-byte-at : first + z < end → lowest_in_byte byte first end ≡ Some (first + z)
   unfolding lowest_in_byte
   lowest-in-byte-at h =
       let back : first + z - first ≡ z = omega arith in
@@ -51,6 +51,6 @@ module _ {byte z : ℕ} (highest : HighestOne byte z) (first end : ℕ) where
         none_below = λ j a b. highest.none_above (j - first) (omega arith);
       })
 
-  pub none-before-end : end ≤ first + z → lowest_in_byte byte first end ≡ none
+  pub none-before-end : end ≤ first + z → lowest_in_byte byte first end ≡ None
   unfolding lowest_in_byte
   none-before-end h = lowest-nothing (λ k. one_at byte (k - first)) first (end - first) (λ k a b. highest.none_above (k - first) (omega arith))

@@ -1,6 +1,6 @@
 -- The answer of a search for a physical block, and what is searched for in a bitmap. Assumes nothing.
 use Rattle.std.specs.Prelude.{ℕ, ◌-◌, ◌/◌, ◌%◌, Bool, not, List, eqb, length}
-use Rattle.std.proofs.Math.Option.{Option, none, some}
+use Rattle.std.specs.Prelude.{Option, None, Some}
 use Rattle.words.specs.Search.{lowest}
 use Rattle.flash_model.specs.Measures.{first_bitmap}
 use Rattle.flash_model.specs.Bitmap.{bit_weight, bit_of}
@@ -9,8 +9,8 @@ use Rattle.flash_bitmap.specs.declared.Found.{Found}
 use Rattle.flash_bitmap.specs.declared.Found.TheVariants.{Hit, Nothing}
 
 abbrev pub as_found : Option ℕ → Found
-as_found none = Nothing
-as_found (some k) = Hit k
+as_found None = Nothing
+as_found (Some k) = Hit k
 
 -- The lowest allocated user block from `from` on.
 unfoldable pub lowest_allocated : List ℕ → ℕ → Option ℕ

@@ -1,7 +1,7 @@
 -- The bits of a byte from its high end, which is the order of the blocks that they stand for: document 01, "leading zeros of a
 -- bitmap byte give the first free user block in it". Assumes nothing.
 use Rattle.std.specs.Prelude.{ℕ, ◌-◌, ◌*◌, ◌/◌, ◌%◌, ◌^◌, ◌<◌, ◌≡◌, Bool, true, false, eqb}
-use Rattle.std.proofs.Math.Option.{Option}
+use Rattle.std.specs.Prelude.{Option}
 use Rattle.std.specs.Int.Count.{count_leading_zeros}
 use Rattle.words.specs.Search.{lowest}
 

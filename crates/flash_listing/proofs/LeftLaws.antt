@@ -3,7 +3,7 @@ use Prim.Native.Nat.{ℕ, ◌+◌, ◌-◌, ◌≤◌}
 use mathlib.Core.Path.{◌≡◌, refl, sym, ap, ◌∙◌}
 use mathlib.Core.Bool.{true, cond}
 use mathlib.Core.List.{List}
-use mathlib.Core.Option.{none}
+use Rattle.std.specs.Prelude.{None}
 use mathlib.Core.Logic.{◌⊎◌, inl, inr}
 use native.Mathlib.Omega.{arith}
 use native.Mathlib.Decide.{ℕ_discrete, dec_le}
@@ -35,10 +35,10 @@ added_then {image} {a} {b} {c} x y = record { each = λ n. go n (x.each n) (y.ea
     go n (inr p) (inr q) = absurd (omega (arith, p.1.0, q.0))
 
 -- a number without a mark has no contents, where no block is left
-no-holder : {marks image : List ℕ} {size end k : ℕ} → PassAt marks image size end k → k ≤ 0 → (n : ℕ) → get_or marks n 0 ≡ 0 → holder image n ≡ none
+no-holder : {marks image : List ℕ} {size end k : ℕ} → PassAt marks image size end k → k ≤ 0 → (n : ℕ) → get_or marks n 0 ≡ 0 → holder image n ≡ None
 no-holder {marks} {image} {size} {end} {k} f z n free = go (dec_le end n)
   where
-    go : Dec (end ≤ n) → holder image n ≡ none
+    go : Dec (end ≤ n) → holder image n ≡ None
     go (yes h) = unfold holder in rw (f.has_measures.has_size, legal-below size n (measures-known f.has_measures), sym f.end_is, le-ltb n end h)
     go (no h) =
         let a : k ≡ 0 = omega arith in

@@ -3,7 +3,7 @@ use Prim.Native.Nat.{ℕ, zero, suc, ◌-◌, ◌≤◌, ◌<◌}
 use mathlib.Core.Path.{◌≡◌, refl, sym, ap, subst, ◌∙◌}
 use mathlib.Core.Bool.{Bool, true, false, cond, ◌&&◌, and-false, true≢false}
 use mathlib.Core.List.{List}
-use mathlib.Core.Option.{some}
+use Rattle.std.specs.Prelude.{Some}
 use mathlib.Core.Logic.{◌⊎◌, inl, inr}
 use native.Mathlib.Omega.{arith}
 use native.Mathlib.Decide.{ℕ_discrete}
@@ -57,7 +57,7 @@ not-above : (p : ℕ → Bool) (i k : ℕ) → i < k → is_at (highest p i) k �
 not-above p zero k h = refl
 not-above p (suc i) k h = go (not-above p i k (omega arith)) (p (suc i))
   where
-    go : is_at (highest p i) k ≡ false → (t : Bool) → is_at (cond t (some (suc i)) (highest p i)) k ≡ false
+    go : is_at (highest p i) k ≡ false → (t : Bool) → is_at (cond t (Some (suc i)) (highest p i)) k ≡ false
     go ih true = ne_eqb (suc i) k (λ e. omega (arith, e, h))
     go ih false = ih
 
@@ -113,7 +113,7 @@ module _ {marks image : List ℕ} {size end k : ℕ} (low : 1 ≤ k) (f : PassAt
     free : get_or marks b 0 ≡ 0
     free = new-free end (block_at image k) marks e
 
-    pub held-here : right_checksum (block_at image k) ≡ true → holder image b ≡ some k
+    pub held-here : right_checksum (block_at image k) ≡ true → holder image b ≡ Some k
     held-here right = f.unmarked b below free ∙ highest-here (copy_at image b) k low (rw (eq-eqb b b refl, right))
 
     -- with a wrong checksum the 0 stored changes nothing

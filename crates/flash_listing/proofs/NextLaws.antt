@@ -3,7 +3,7 @@ use Prim.Native.Nat.{ℕ, ◌+◌, ◌≤◌, ◌<◌}
 use mathlib.Core.Path.{◌≡◌, refl, sym, ap, subst, ◌∙◌}
 use mathlib.Core.Bool.{Bool, true, false, cond, ◌&&◌, ◌||◌, and-false, true≢false}
 use mathlib.Core.List.{List}
-use mathlib.Core.Option.{Option, none, some, map}
+use Rattle.std.specs.Prelude.{Option, None, Some, option_map}
 use mathlib.Core.Logic.{◌≢◌, ◌⊎◌, inl, inr}
 use native.Mathlib.Omega.{arith}
 use native.Mathlib.Decide.{ℕ_discrete}
@@ -121,29 +121,29 @@ module _ {image : List ℕ} {log : OpenedLog} (u : Usable image log) (end : ℕ)
   legal n h = legal-below log.m.size n (usable-measured u) ∙ lt-ltb n (capacity log.m.size) (omega (arith, h, e))
 
   -- a number of which no used block is a copy has no contents
-  no-contents : (n : ℕ) → n < end → ((j : ℕ) → 1 ≤ j → j ≤ log.used → copy_at image n j ≡ false) → contents image n ≡ none
+  no-contents : (n : ℕ) → n < end → ((j : ℕ) → 1 ≤ j → j ≤ log.used → copy_at image n j ≡ false) → contents image n ≡ None
   unfolding contents
   no-contents n h none-match =
-      ap (map (λ j. payload (block_at image j))) (holder-some u n (legal n h) ∙ highest-nothing (copy_at image n) log.used none-match)
+      ap (option_map (λ j. payload (block_at image j))) (holder-some u n (legal n h) ∙ highest-nothing (copy_at image n) log.used none-match)
 
-  has-contents : (k n : ℕ) → k ≤ log.used + 1 → n < end → Seen image k n → contents image n ≢ none
+  has-contents : (k n : ℕ) → k ≤ log.used + 1 → n < end → Seen image k n → contents image n ≢ None
   unfolding contents
   has-contents k n f h s e = go (highest (copy_at image n) log.used) refl
     where
       go : (o : Option ℕ) → highest (copy_at image n) log.used ≡ o → ⊥
-      go none q = true≢false (sym s.here ∙ highest-none (copy_at image n) log.used q s.at s.low (omega (arith, s.below, f)))
-      go (some j) q =
-          let c : contents image n ≡ some (payload (block_at image j)) = unfold contents in ap (map (λ j. payload (block_at image j))) (holder-some u n (legal n h) ∙ q) in
+      go None q = true≢false (sym s.here ∙ highest-none (copy_at image n) log.used q s.at s.low (omega (arith, s.below, f)))
+      go (Some j) q =
+          let c : contents image n ≡ Some (payload (block_at image j)) = unfold contents in ap (option_map (λ j. payload (block_at image j))) (holder-some u n (legal n h) ∙ q) in
           let z : ◌≡◌ {A = ℕ} 0 1 = cc in
           omega arith
 
   -- the start is past the top
-  pub next_past : (start : ℕ) → end ≤ start → as_lowest none ≡ as_lowest (lowest_live image start)
+  pub next_past : (start : ℕ) → end ≤ start → as_lowest None ≡ as_lowest (lowest_live image start)
   next_past start h = ap as_lowest (sym (live-none image start (λ n a c. absurd (omega (arith, a, c, h, e, ap capacity u.has_size)))))
 
   -- the start itself is found
   pub next_start : (start k best : ℕ) → start < end → k ≤ log.used + 1 → best ≡ start → BestSoFar image start end k best
-      → as_lowest (some start) ≡ as_lowest (lowest_live image start)
+      → as_lowest (Some start) ≡ as_lowest (lowest_live image start)
   next_start start k best h f q b =
       ap as_lowest (sym ((next_live_lem image start start u.is_sound).1 (record {
         not_below = omega arith;
@@ -153,10 +153,10 @@ module _ {image : List ℕ} {log : OpenedLog} (u : Usable image log) (end : ℕ)
 
   -- all used blocks are passed
   module _ (start k best : ℕ) (f : k ≡ log.used + 1) (b : BestSoFar image start end k best) where
-    lower-none : (n : ℕ) → start ≤ n → n < best → contents image n ≡ none
+    lower-none : (n : ℕ) → start ≤ n → n < best → contents image n ≡ None
     lower-none n a c = no-contents n (omega (arith, c, b.bound)) (λ j lo hi. b.none_lower n j a c lo (omega (arith, hi, f)))
 
-    pub next_is : best < end → as_lowest (some best) ≡ as_lowest (lowest_live image start)
+    pub next_is : best < end → as_lowest (Some best) ≡ as_lowest (lowest_live image start)
     next_is h =
         ap as_lowest (sym ((next_live_lem image start best u.is_sound).1 (record {
           not_below = b.not_below h;
@@ -164,6 +164,6 @@ module _ {image : List ℕ} {log : OpenedLog} (u : Usable image log) (end : ℕ)
           none_between = λ n a c. lower-none n a c;
         })))
 
-    pub next-none : end ≤ best → as_lowest none ≡ as_lowest (lowest_live image start)
+    pub next-none : end ≤ best → as_lowest None ≡ as_lowest (lowest_live image start)
     next-none h =
         ap as_lowest (sym (live-none image start (λ n a c. lower-none n a (omega (arith, c, h, e, ap capacity u.has_size)))))

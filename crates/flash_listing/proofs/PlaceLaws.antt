@@ -3,7 +3,7 @@ use Prim.Native.Nat.{ℕ, zero, suc, ◌-◌, ◌≤◌, ◌<◌}
 use mathlib.Core.Path.{◌≡◌, refl, sym, ap, ◌∙◌}
 use mathlib.Core.Bool.{Bool, true, false, cond, ◌&&◌, and-false}
 use mathlib.Core.List.{List, ◌++◌}
-use mathlib.Core.Option.{none, some}
+use Rattle.std.specs.Prelude.{None, Some}
 use mathlib.Core.Logic.{◌≢◌}
 use native.Mathlib.Omega.{arith}
 use native.Mathlib.Decide.{ℕ_discrete}
@@ -42,7 +42,7 @@ module _ (end : ℕ) (block : List ℕ) (k : ℕ) (places : List ℕ) where
 
 -- the places that are not 0 are right, and further ones are as they were
 pub record Placed (image : List ℕ) (end : ℕ) (cleared places : List ℕ) : Type 0 where
-  pub right : (n : ℕ) → n < end → get_or places n 0 ≢ 0 → holder image n ≡ some (get_or places n 0)
+  pub right : (n : ℕ) → n < end → get_or places n 0 ≢ 0 → holder image n ≡ Some (get_or places n 0)
   pub others : drop end places ≡ drop end cleared
   pub as_long : length places ≡ length cleared
 
@@ -88,11 +88,11 @@ module _ {image cleared places : List ℕ} {size end k : ℕ} (low : 1 ≤ k) (f
           here : get_or (set places b k) b 0 ≡ k
           here = get_or-set_same places b k 0 (omega (arith, new-below end (block_at image k) places e, f.long))
 
-          at : (n : ℕ) → n < end → get_or (set places b k) n 0 ≢ 0 → Dec (n ≡ b) → holder image n ≡ some (get_or (set places b k) n 0)
-          at n l d (yes w) = ap (holder image) w ∙ held-here low f e q ∙ ap (λ (x : ℕ). some x) (sym here ∙ ap (λ (x : ℕ). get_or (set places b k) x 0) (sym w))
+          at : (n : ℕ) → n < end → get_or (set places b k) n 0 ≢ 0 → Dec (n ≡ b) → holder image n ≡ Some (get_or (set places b k) n 0)
+          at n l d (yes w) = ap (holder image) w ∙ held-here low f e q ∙ ap (λ (x : ℕ). Some x) (sym here ∙ ap (λ (x : ℕ). get_or (set places b k) x 0) (sym w))
           at n l d (no w) =
               let o = get_or-set_other places b n k 0 w in
-              p.right n l (λ z. d (o ∙ z)) ∙ ap (λ (x : ℕ). some x) (sym o)
+              p.right n l (λ z. d (o ∙ z)) ∙ ap (λ (x : ℕ). Some x) (sym o)
 
 -- all blocks are passed
 pub all_placed : {image cleared places : List ℕ} {size end k : ℕ} (places₀ : List ℕ) → end ≤ length places₀ → Cleared end places₀ cleared
@@ -103,7 +103,7 @@ all_placed {image} {cleared} {places} {size} {end} {k} places₀ h e done f p = 
   same_length = p.as_long ∙ cleared-length end places₀ cleared h e;
 }
   where
-    nothing : (n k : ℕ) → k ≤ 0 → highest (copy_at image n) k ≡ none
+    nothing : (n k : ℕ) → k ≤ 0 → highest (copy_at image n) k ≡ None
     nothing n zero d = refl
     nothing n (suc k) d = absurd (omega (arith, d))
 

@@ -2,7 +2,7 @@
 -- its number is the lowest so far.
 -- Assumes nothing.
 use Rattle.std.specs.Prelude.{ℕ, ◌≡◌, Bool, cond, ◌&&◌, List, eqb, ltb, leb, get_or}
-use Rattle.std.proofs.Math.Option.{Option, none, some}
+use Rattle.std.specs.Prelude.{Option, None, Some}
 use Rattle.words.specs.Lists.{keep, numbers_from}
 use Rattle.flash_model.specs.UserBlock.{number, right_checksum}
 use Rattle.flash_model.specs.Partition.{block_at}
@@ -35,5 +35,5 @@ unfoldable pub lowered : ℕ → List ℕ → ℕ → ℕ
 lowered start block best = cond (leb start (number block) && (ltb (number block) best && right_checksum block)) (number block) best
 
 abbrev pub as_lowest : Option ℕ → LowestNumber
-as_lowest none = Nothing
-as_lowest (some n) = Hit n
+as_lowest None = Nothing
+as_lowest (Some n) = Hit n

@@ -1,15 +1,15 @@
 -- The places of numbers: for each logical number the physical block that holds its contents.
 -- Assumes nothing.
 use Rattle.std.specs.Prelude.{ℕ, ◌<◌, ◌≡◌, cond, ◌&&◌, List, length, get_or, drop, set}
-use Rattle.std.proofs.Math.Option.{Option, none, some}
+use Rattle.std.specs.Prelude.{Option, None, Some}
 use Rattle.flash_model.specs.UserBlock.{number, right_checksum}
 use Rattle.flash_model.specs.Partition.{holder}
 use Rattle.flash_listing.specs.BlockTests.{is_new}
 
 -- A place is 0 where there are no contents.
 abbrev pub place_of : Option ℕ → ℕ
-place_of none = 0
-place_of (some k) = k
+place_of None = 0
+place_of (Some k) = k
 
 -- The places with block k entered for its number, if that has none and the checksum is right.
 unfoldable pub entered : ℕ → List ℕ → ℕ → List ℕ → List ℕ

@@ -3,7 +3,7 @@ use Prim.Native.Nat.{ℕ, suc}
 use mathlib.Core.Path.{◌≡◌, refl, sym, ap, subst, ◌∙◌}
 use mathlib.Core.Bool.{Bool, true, false, cond}
 use mathlib.Core.List.{List, [], ◌∷◌}
-use mathlib.Core.Option.{Option, none, some}
+use Rattle.std.specs.Prelude.{Option, None, Some}
 use mathlib.Core.Logic.{◌≢◌}
 use native.Mathlib.Omega.{arith}
 use lib.Dec.{eqb}
@@ -69,17 +69,17 @@ module _ (image : List ℕ) (c : Call) where
 -- ---- the expected page
 
 -- the bytes compared, and what they stand for
-module _ (kept : Option (List ℕ)) (long : (page : List ℕ) → kept ≡ some page → length page ≡ 60) where
+module _ (kept : Option (List ℕ)) (long : (page : List ℕ) → kept ≡ Some page → length page ≡ 60) where
   pub same_seen : (expected : List ℕ) → differs kept expected ≡ false → expected_page expected ≡ kept
   same_seen expected d = go kept long expected d
     where
-      go : (o : Option (List ℕ)) → ((page : List ℕ) → o ≡ some page → length page ≡ 60) → (expected : List ℕ) → differs o expected ≡ false → expected_page expected ≡ o
-      go none l [] d = refl
-      go none l (x ∷ xs) d = absurd (omega (arith, eqb-true (suc (length xs)) 0 (not-false (eqb (suc (length xs)) 0) d)))
-      go (some page) l [] d =
+      go : (o : Option (List ℕ)) → ((page : List ℕ) → o ≡ Some page → length page ≡ 60) → (expected : List ℕ) → differs o expected ≡ false → expected_page expected ≡ o
+      go None l [] d = refl
+      go None l (x ∷ xs) d = absurd (omega (arith, eqb-true (suc (length xs)) 0 (not-false (eqb (suc (length xs)) 0) d)))
+      go (Some page) l [] d =
           let e = same-eq page [] (not-false (same_bytes page []) d) in
           absurd (omega (arith, l page refl, ap length e))
-      go (some page) l (x ∷ xs) d = ap (λ (p : List ℕ). some p) (sym (same-eq page (x ∷ xs) (not-false (same_bytes page (x ∷ xs)) d)))
+      go (Some page) l (x ∷ xs) d = ap (λ (p : List ℕ). Some p) (sym (same-eq page (x ∷ xs) (not-false (same_bytes page (x ∷ xs)) d)))
 
   pub seen_same : (expected : List ℕ) → expected_page expected ≡ kept → differs kept expected ≡ false
   seen_same expected d = subst (λ (o : Option (List ℕ)). differs o expected ≡ false) d (go expected)

@@ -3,7 +3,7 @@ use Prim.Native.Nat.{ℕ, ◌≤◌}
 use mathlib.Core.Path.{◌≡◌, refl, sym, ap, subst, ◌∙◌}
 use mathlib.Core.Bool.{Bool, true, false, not, cond, ◌||◌}
 use mathlib.Core.List.{List, [], ◌∷◌, ◌++◌}
-use mathlib.Core.Option.{Option, none, some}
+use Rattle.std.specs.Prelude.{Option, None, Some}
 use mathlib.Core.Logic.{◌⊎◌, inl, inr}
 use native.Mathlib.Omega.{arith}
 use lib.Dec.{eqb}
@@ -31,11 +31,11 @@ use Rattle.flash_model.proofs.StoreLaws.{after-done, page-keeps, rows-contents}
 
 -- ---- a save with what stands there
 
-pub seen-is : (o : Option (List ℕ)) → ((page : List ℕ) → o ≡ some page → length page ≡ 60)
+pub seen-is : (o : Option (List ℕ)) → ((page : List ℕ) → o ≡ Some page → length page ≡ 60)
     → (expected_page (page_bytes o) ≡ o) × ((length (page_bytes o) ≡ 0) ⊎ (length (page_bytes o) ≡ 60))
-seen-is none long = (refl, inl refl)
-seen-is (some []) long = absurd (omega (arith, long [] refl))
-seen-is (some (x ∷ xs)) long = (refl, inr (long (x ∷ xs) refl))
+seen-is None long = (refl, inl refl)
+seen-is (Some []) long = absurd (omega (arith, long [] refl))
+seen-is (Some (x ∷ xs)) long = (refl, inr (long (x ∷ xs) refl))
 
 -- is done
 pub seen-save : (image : List ℕ) (partition n : ℕ) (page : List ℕ) → refusal image partition ≡ 0 → n ≤ top_number (length image) → length page ≡ 60
@@ -54,20 +54,20 @@ pub slot-count : slot_count ≡ 100
 unfolding slot_count
 slot-count = refl
 
-pub written-free : (image header : List ℕ) (slot : ℕ) → written_slot image header ≡ some slot → (product_slot image (product_of header) ≡ none) × (free_slot image ≡ some slot)
+pub written-free : (image header : List ℕ) (slot : ℕ) → written_slot image header ≡ Some slot → (product_slot image (product_of header) ≡ None) × (free_slot image ≡ Some slot)
 unfolding written_slot
 written-free image header slot e = go (product_slot image (product_of header)) refl e
   where
-    go : (o : Option ℕ) → product_slot image (product_of header) ≡ o → cond (is_some o) none (free_slot image) ≡ some slot
-        → (product_slot image (product_of header) ≡ none) × (free_slot image ≡ some slot)
-    go none q f = (q, f)
-    go (some k) q f = let z : ◌≡◌ {A = ℕ} 0 1 = cc in absurd (omega (arith, z))
+    go : (o : Option ℕ) → product_slot image (product_of header) ≡ o → cond (is_some o) None (free_slot image) ≡ Some slot
+        → (product_slot image (product_of header) ≡ None) × (free_slot image ≡ Some slot)
+    go None q f = (q, f)
+    go (Some k) q f = let z : ◌≡◌ {A = ℕ} 0 1 = cc in absurd (omega (arith, z))
 
-pub free-lowest : (image : List ℕ) (slot : ℕ) → free_slot image ≡ some slot → IsLowest (λ k. not (valid_slot image k)) 0 slot_count slot
+pub free-lowest : (image : List ℕ) (slot : ℕ) → free_slot image ≡ Some slot → IsLowest (λ k. not (valid_slot image k)) 0 slot_count slot
 unfolding free_slot
 free-lowest image slot e = lowest-some (λ k. not (valid_slot image k)) 0 slot_count slot e
 
-pub free-most : (image : List ℕ) (slot : ℕ) → free_slot image ≡ some slot → slot ≤ 99
+pub free-most : (image : List ℕ) (slot : ℕ) → free_slot image ≡ Some slot → slot ≤ 99
 free-most image slot e = omega (arith, (free-lowest image slot e).high, slot-count)
 
 -- ---- an accepted claim
@@ -163,8 +163,8 @@ claim_done image partition one other = go (eqb (code_of image (on_pages (claim p
   where
     saves : code_of image (on_pages (claim partition one other)) ≡ 0 → (o : Option ℕ) → written_slot image (one ++ other) ≡ o
         → AllDone (answered_pages image (saves_at image partition one other o))
-    saves e none q = tt
-    saves e (some slot) q =
+    saves e None q = tt
+    saves e (Some slot) q =
         let d = both-done image partition one other slot (claim-rows image partition one other e) (free-most image slot (written-free image (one ++ other) slot q).1) in
         (d.first_done, (d.second_done, tt))
 

@@ -3,7 +3,7 @@ use Prim.Native.Nat.{ℕ, zero, suc, ◌+◌, ◌*◌, ◌≤◌, ◌<◌}
 use mathlib.Core.Path.{◌≡◌, refl, sym, ap, subst, ◌∙◌}
 use mathlib.Core.Bool.{Bool, true, false, not, cond, false≢true}
 use mathlib.Core.List.{List, [], ◌∷◌, ◌++◌}
-use mathlib.Core.Option.{Option, none, some}
+use Rattle.std.specs.Prelude.{Option, None, Some}
 use mathlib.Core.Logic.{◌≢◌, ◌⊎◌, inl, inr}
 use native.Mathlib.Omega.{arith}
 use native.Mathlib.Decide.{ℕ_discrete}
@@ -64,13 +64,13 @@ module _ (image : List ℕ) (partition : ℕ) (one other image' : List ℕ) (ans
   unfolding calls_made
   image_is o q = accepted-image image it image' answer a e ∙ ap (λ (o : Option ℕ). after_pages image (saves_at image partition one other o)) q
 
-  claim-found : (slot : ℕ) → product_slot image (product_of (one ++ other)) ≡ some slot
+  claim-found : (slot : ℕ) → product_slot image (product_of (one ++ other)) ≡ Some slot
       → (slot : ℕ) × (answer.values ≡ slot ∷ []) × (ClaimFound image one other image' slot ⊎ ClaimWritten image one other image' slot)
   unfolding claimed_slot written_slot product_of
   claim-found slot q = (
     slot,
     values_are ∙ rw q,
-    inl (record { is_lowest = product_found image (take 10 (drop 2 (one ++ other))) slot q; same_image = image_is none (rw q) }),
+    inl (record { is_lowest = product_found image (take 10 (drop 2 (one ++ other))) slot q; same_image = image_is None (rw q) }),
   )
 
   same-header-at : (image image' : List ℕ) (k : ℕ) (header : List ℕ)
@@ -85,7 +85,7 @@ module _ (image : List ℕ) (partition : ℕ) (one other image' : List ℕ) (ans
     makes_valid = v.makes_valid;
   }
 
-  claim-written : (slot : ℕ) → product_slot image (product_of (one ++ other)) ≡ none → free_slot image ≡ some slot
+  claim-written : (slot : ℕ) → product_slot image (product_of (one ++ other)) ≡ None → free_slot image ≡ Some slot
       → (slot : ℕ) × (answer.values ≡ slot ∷ []) × (ClaimFound image one other image' slot ⊎ ClaimWritten image one other image' slot)
   unfolding claimed_slot written_slot product_of
   claim-written slot q f =
@@ -93,7 +93,7 @@ module _ (image : List ℕ) (partition : ℕ) (one other image' : List ℕ) (ans
       let i = after_page image p in
       let d = both-done image partition one other slot rows (free-most image slot f) in
       let first_one = subst (λ (n : ℕ). SaveDone image n one i) (header-first slot) (save-done image partition (slot_number slot 0) _ one d.first_done) in
-      let last : after_page i (second_save image partition one other slot) ≡ image' = sym (image_is (some slot) (rw (q, f))) in
+      let last : after_page i (second_save image partition one other slot) ≡ image' = sym (image_is (Some slot) (rw (q, f))) in
       let second-one = subst (λ (j : List ℕ). SaveDone i (25 + 4 * slot) other j) last
       (subst (λ (n : ℕ). SaveDone i n other (after_page i (second_save image partition one other slot))) (header-second slot) (save-done i partition (slot_number slot 1) _ other d.second_done)) in
       let one_is = save_keeps image (24 + 4 * slot) one i first_one in
@@ -135,14 +135,14 @@ module _ (image : List ℕ) (partition : ℕ) (one other image' : List ℕ) (ans
   pub claim_gives : (slot : ℕ) × (answer.values ≡ slot ∷ []) × (ClaimFound image one other image' slot ⊎ ClaimWritten image one other image' slot)
   claim_gives = go (product_slot image (product_of (one ++ other))) refl (free_slot image) refl
     where
-      nothing : product_slot image (product_of (one ++ other)) ≡ none → free_slot image ≡ none → ⊥
+      nothing : product_slot image (product_of (one ++ other)) ≡ None → free_slot image ≡ None → ⊥
       nothing q f = unfold claimed_slot in false≢true (sym (rw (q, f)) ∙ rows.is_given)
 
       go : (o : Option ℕ) → product_slot image (product_of (one ++ other)) ≡ o → (f : Option ℕ) → free_slot image ≡ f
           → (slot : ℕ) × (answer.values ≡ slot ∷ []) × (ClaimFound image one other image' slot ⊎ ClaimWritten image one other image' slot)
-      go (some slot) q f r = claim-found slot q
-      go none q (some slot) r = claim-written slot q r
-      go none q none r = absurd (nothing q r)
+      go (Some slot) q f r = claim-found slot q
+      go None q (Some slot) r = claim-written slot q r
+      go None q None r = absurd (nothing q r)
 
 -- ---- what a claim counts as
 
@@ -165,9 +165,9 @@ module _ (image : List ℕ) (partition : ℕ) (one other : List ℕ) where
   found-counts slot p = go (product_slot image (product_of (one ++ other))) refl (ℕ_discrete (code_of image this) 0)
     where
       go : (o : Option ℕ) → product_slot image (product_of (one ++ other)) ≡ o → Dec (code_of image this ≡ 0) → counts_as image this ≡ []
-      go none q d = absurd (product-none image (take 10 (drop 2 (one ++ other))) q slot p)
-      go (some k) q (yes e) = accepted-counts none (rw q) e
-      go (some k) q (no n) = refused-counts n
+      go None q d = absurd (product-none image (take 10 (drop 2 (one ++ other))) q slot p)
+      go (Some k) q (yes e) = accepted-counts None (rw q) e
+      go (Some k) q (no n) = refused-counts n
 
   pub written-counts : code_of image this ≡ 0 → NoProduct image (take 10 (drop 2 (one ++ other))) → CountsAsSaves image partition one other
   unfolding product_of written_slot
@@ -179,23 +179,23 @@ module _ (image : List ℕ) (partition : ℕ) (one other : List ℕ) where
       stands : (k : ℕ) → expected_page (page_bytes (contents image k)) ≡ contents image k
       stands k = (seen-is (contents image k) (λ page q. contents-length image (unrefused-sound image partition rows.is_open.unrefused_1_5) k page q)).0
 
-      nothing : product_slot image (product_of (one ++ other)) ≡ none → free_slot image ≡ none → ⊥
+      nothing : product_slot image (product_of (one ++ other)) ≡ None → free_slot image ≡ None → ⊥
       nothing q f = unfold claimed_slot in false≢true (sym (rw (q, f)) ∙ rows.is_given)
 
-      written : (slot : ℕ) → product_slot image (product_of (one ++ other)) ≡ none → free_slot image ≡ some slot → written_slot image (one ++ other) ≡ some slot
+      written : (slot : ℕ) → product_slot image (product_of (one ++ other)) ≡ None → free_slot image ≡ Some slot → written_slot image (one ++ other) ≡ Some slot
       written slot q f = rw (q, f)
 
       go : (o : Option ℕ) → product_slot image (product_of (one ++ other)) ≡ o → (f : Option ℕ) → free_slot image ≡ f → CountsAsSaves image partition one other
-      go (some k) q f r = absurd (n k (product_found image (take 10 (drop 2 (one ++ other))) k q).here)
-      go none q none r = absurd (nothing q r)
-      go none q (some slot) r = record {
+      go (Some k) q f r = absurd (n k (product_found image (take 10 (drop 2 (one ++ other))) k q).here)
+      go None q None r = absurd (nothing q r)
+      go None q (Some slot) r = record {
         slot = slot;
         is_lowest = free-found image slot r;
         seen_one = page_bytes (contents image (24 + 4 * slot));
         seen_other = page_bytes (contents image (25 + 4 * slot));
         one_stands = stands (24 + 4 * slot);
         other_stands = stands (25 + 4 * slot);
-        saves_are = accepted-counts (some slot) (written slot q r) e ∙ rw (header-first slot, header-second slot);
+        saves_are = accepted-counts (Some slot) (written slot q r) e ∙ rw (header-first slot, header-second slot);
       }
 
 module _ (owned : ℕ → Bool) (s t one other : List ℕ) (partition : ℕ) where

@@ -3,7 +3,7 @@ use Prim.Native.Nat.{ℕ, suc, ◌≤◌, ◌<◌}
 use mathlib.Core.Path.{◌≡◌, refl, sym, ap, subst, ◌∙◌}
 use mathlib.Core.Bool.{Bool, true, false, not, cond, ◌||◌, true≢false}
 use mathlib.Core.List.{List}
-use mathlib.Core.Option.{Option, none, some}
+use Rattle.std.specs.Prelude.{Option, None, Some}
 use mathlib.Core.Logic.{◌≢◌, ◌⊎◌, inl, inr, ⊎_elim}
 use native.Mathlib.Omega.{arith}
 use lib.Dec.{eqb}
@@ -27,9 +27,9 @@ use Rattle.flash_model.proofs.MeaningLaws.{contents-length}
 
 -- ---- what each test says
 
-pub says-7 : (o : Option (List ℕ)) → Says (not (is_some o)) (o ≡ none) (o ≢ none)
-says-7 none = record { applies = λ e. refl; passes = λ e. absurd (true≢false e); apart = λ e d. d e }
-says-7 (some page) = record { applies = λ e. absurd (true≢false (sym e)); passes = λ e d. true≢false (ap is_some d); apart = λ e d. d e }
+pub says-7 : (o : Option (List ℕ)) → Says (not (is_some o)) (o ≡ None) (o ≢ None)
+says-7 None = record { applies = λ e. refl; passes = λ e. absurd (true≢false e); apart = λ e d. d e }
+says-7 (Some page) = record { applies = λ e. absurd (true≢false (sym e)); passes = λ e d. true≢false (ap is_some d); apart = λ e d. d e }
 
 pub says-lengths : (expected page : List ℕ) → Says (wrong_lengths expected page) (LengthsRefused expected page) (LengthsTaken expected page)
 unfolding wrong_lengths
@@ -68,7 +68,7 @@ module _ (image : List ℕ) (n : ℕ) where
     apart = λ d q. d q;
   }
     where
-      long : (page : List ℕ) → contents image n ≡ some page → length page ≡ 60
+      long : (page : List ℕ) → contents image n ≡ Some page → length page ≡ 60
       long page e = contents-length image (unrefused-sound image partition s) n page e
 
 -- ---- what each number says
@@ -81,8 +81,8 @@ module _ (image : List ℕ) (n : ℕ) (buffer : List ℕ) where
   ReadTold code =
       cond (eqb code 6) (top_number (length image) < n)
       (cond (eqb code 8) ((n ≤ top_number (length image)) × (length buffer ≢ 60))
-      (cond (eqb code 7) ((n ≤ top_number (length image)) × (length buffer ≡ 60) × (contents image n ≡ none))
-      ((n ≤ top_number (length image)) × (length buffer ≡ 60) × (contents image n ≢ none))))
+      (cond (eqb code 7) ((n ≤ top_number (length image)) × (length buffer ≡ 60) × (contents image n ≡ None))
+      ((n ≤ top_number (length image)) × (length buffer ≡ 60) × (contents image n ≢ None))))
       × (code ≤ 9)
 
   pub read_told : {code : ℕ} → read_rows image n buffer ≡ code → ReadTold code
@@ -138,7 +138,7 @@ module _ (image : List ℕ) (partition n : ℕ) (expected page : List ℕ) (s : 
 -- an accepted read
 pub record AcceptedRead (image : List ℕ) (partition n : ℕ) : Type 0 where
   pub unrefused_1_5 : refusal image partition ≡ 0
-  pub there : contents image n ≢ none
+  pub there : contents image n ≢ None
 
 -- an accepted save
 pub record AcceptedSave (image : List ℕ) (partition n : ℕ) (page : List ℕ) : Type 0 where

@@ -3,7 +3,7 @@ use Prim.Native.Nat.{ℕ, suc, ◌≤◌}
 use mathlib.Core.Path.{◌≡◌, refl, sym, ap, subst, ◌∙◌}
 use mathlib.Core.Bool.{true, false, not, true≢false, false≢true}
 use mathlib.Core.List.{List, [], ◌∷◌, ◌++◌}
-use mathlib.Core.Option.{Option, none, some}
+use Rattle.std.specs.Prelude.{Option, None, Some}
 use mathlib.Core.Logic.{◌↔◌, ◌≢◌, ◌⊎◌, inl, inr}
 use native.Mathlib.Omega.{arith}
 use native.Mathlib.Nat.{add-zero}
@@ -127,31 +127,31 @@ next_live_gives image partition start image' answer a e =
   where
     go : (o : Option ℕ) → lowest_live image start ≡ o → row 7 (not (is_some o)) 0 ≡ 0 → answer.values ≡ to_list (lowest_live image start) → Sound image
         → (n : ℕ) × (answer.values ≡ n ∷ []) × NextLiveIs image start n
-    go none q t v s = absurd (omega (arith, t))
-    go (some n) q t v s = (n, v ∙ ap to_list q, (next_live_lem image start n s).0 q)
+    go None q t v s = absurd (omega (arith, t))
+    go (Some n) q t v s = (n, v ∙ ap to_list q, (next_live_lem image start n s).0 q)
 
 next_live_none : (image : List ℕ) (start : ℕ) → Sound image → code_of image (on_whole (next_live (header_number image) start)) ≢ 0
-    → (code_of image (on_whole (next_live (header_number image) start)) ≡ 7) × ((n : ℕ) → start ≤ n → contents image n ≡ none)
+    → (code_of image (on_whole (next_live (header_number image) start)) ≡ 7) × ((n : ℕ) → start ≤ n → contents image n ≡ None)
 unfolding code_of
 next_live_none image start s refused = go (lowest_live image start) refl
   where
     go : (o : Option ℕ) → lowest_live image start ≡ o
-        → (first (refusal image (header_number image)) (row 7 (not (is_some (lowest_live image start))) 0) ≡ 7) × ((n : ℕ) → start ≤ n → contents image n ≡ none)
-    go none q = (rw (s, q), none_live image start s q)
-    go (some n) q = absurd (refused (rw (s, q)))
+        → (first (refusal image (header_number image)) (row 7 (not (is_some (lowest_live image start))) 0) ≡ 7) × ((n : ℕ) → start ≤ n → contents image n ≡ None)
+    go None q = (rw (s, q), none_live image start s q)
+    go (Some n) q = absurd (refused (rw (s, q)))
 
 read_gives : (image : List ℕ) (partition n : ℕ) (buffer image' : List ℕ) (answer : Reply)
     → Answered image (on_page (read partition n buffer)) image' answer → answer.code ≡ 0
-    → (page : List ℕ) × (answer.buffers ≡ page ∷ []) × (contents image n ≡ some page) × (length page ≡ 60)
+    → (page : List ℕ) × (answer.buffers ≡ page ∷ []) × (contents image n ≡ Some page) × (length page ≡ 60)
 read_gives image partition n buffer image' answer a e =
     let c = on_page (read partition n buffer) in
     let r = read-rows image partition n buffer (sym (answered-code image c image' answer a) ∙ e) in
     go (contents image n) refl r.there (accepted-buffers image c image' answer a e) (unrefused-sound image partition r.unrefused_1_5)
   where
-    go : (o : Option (List ℕ)) → contents image n ≡ o → contents image n ≢ none → answer.buffers ≡ to_list (contents image n) → Sound image
-        → (page : List ℕ) × (answer.buffers ≡ page ∷ []) × (contents image n ≡ some page) × (length page ≡ 60)
-    go none q t b s = absurd (t q)
-    go (some page) q t b s = (page, b ∙ ap to_list q, q, contents-length image s n page q)
+    go : (o : Option (List ℕ)) → contents image n ≡ o → contents image n ≢ None → answer.buffers ≡ to_list (contents image n) → Sound image
+        → (page : List ℕ) × (answer.buffers ≡ page ∷ []) × (contents image n ≡ Some page) × (length page ≡ 60)
+    go None q t b s = absurd (t q)
+    go (Some page) q t b s = (page, b ∙ ap to_list q, q, contents-length image s n page q)
 
 -- ---- an accepted save
 
@@ -184,13 +184,13 @@ module _ (image : List ℕ) (n : ℕ) (page image' : List ℕ) (done : SaveDone 
         keeps_rest = k;
       })
 
-  save_idles : contents image n ≡ some page → (image' ≡ image) × (contents image' n ≡ some page)
+  save_idles : contents image n ≡ Some page → (image' ≡ image) × (contents image' n ≡ Some page)
   save_idles e = (is-saved ∙ saved-idle image n page e, save_keeps.saved_page)
 
-  as_written : contents image n ≢ some page → image' ≡ page_written image n page
+  as_written : contents image n ≢ Some page → image' ≡ page_written image n page
   as_written d = is-saved ∙ saved-written image n page d
 
-  save_appends : contents image n ≢ some page → (k : ℕ) → LowestFreeBlank image k → AppendedAt image k (new_block n page) image' × (used image' ≡ suc (used image))
+  save_appends : contents image n ≢ Some page → (k : ℕ) → LowestFreeBlank image k → AppendedAt image k (new_block n page) image' × (used image' ≡ suc (used image))
   save_appends d k b =
       let new = new_block n page in
       let l = new-length n page long in
@@ -217,7 +217,7 @@ module _ (image : List ℕ) (n : ℕ) (page image' : List ℕ) (done : SaveDone 
           rw u (appended-used image is_sound (new_block n page) (new-length n page long) (omega (arith, u, b.high)))
 
   -- where there is no block to append to
-  module _ (d : contents image n ≢ some page) (full : append_block image ≡ none) where
+  module _ (d : contents image n ≢ Some page) (full : append_block image ≡ None) where
     as-compacted : image' ≡ compacted image (other_holders image n ++ new_block n page ∷ [])
     unfolding page_written
     as-compacted = as_written d ∙ ap (saved_at image n page) full
@@ -237,20 +237,20 @@ module _ (image : List ℕ) (n : ℕ) (page image' : List ℕ) (done : SaveDone 
         ap (block_at image') u ∙ compacts.blocks_are (length others) (omega (arith, l))
         ∙ ap (λ (i : ℕ). get_or (others ++ new_block n page ∷ []) i []) (sym (add-zero (length others))) ∙ get_or-append-add others (new_block n page ∷ []) 0 []
 
-  save_compacts : contents image n ≢ some page → ((k : ℕ) → LowestFreeBlank image k → ⊥)
+  save_compacts : contents image n ≢ Some page → ((k : ℕ) → LowestFreeBlank image k → ⊥)
       → CompactedAs image (other_holders image n ++ new_block n page ∷ []) image' × (used image' ≡ live image')
   save_compacts d none-blank = go (append_block image) refl
     where
       go : (o : Option ℕ) → append_block image ≡ o → CompactedAs image (other_holders image n ++ new_block n page ∷ []) image' × (used image' ≡ live image')
-      go none e = (compacts d e, rw (as-compacted d e) (compaction-used image is_sound n page legal long))
-      go (some k) e = absurd (none-blank k (append-blank image k e))
+      go None e = (compacts d e, rw (as-compacted d e) (compaction-used image is_sound n page legal long))
+      go (Some k) e = absurd (none-blank k (append-blank image k e))
 
-  save_place : contents image n ≢ some page → block_at image' (used image') ≡ new_block n page
+  save_place : contents image n ≢ Some page → block_at image' (used image') ≡ new_block n page
   save_place d = go (append_block image) refl
     where
       go : (o : Option ℕ) → append_block image ≡ o → block_at image' (used image') ≡ new_block n page
-      go none e = compacted-place d e
-      go (some k) e =
+      go None e = compacted-place d e
+      go (Some k) e =
           let b = append-blank image k e in
           let a = save_appends d k b in
           ap (block_at image') (a.1 ∙ sym (blank-used image is_sound k b)) ∙ a.0.is_written
@@ -259,8 +259,8 @@ save_cases : (image : List ℕ) (n : ℕ) (page : List ℕ) → SaveCases image 
 save_cases image n page = either-saved image n page (λ r. SaveCases image n page) (λ e. inl e) (λ d. inr (d, go (append_block image) refl))
   where
     go : (o : Option ℕ) → append_block image ≡ o → ((k : ℕ) × LowestFreeBlank image k) ⊎ ((k : ℕ) → LowestFreeBlank image k → ⊥)
-    go none e = inr (λ k b. let q = sym e ∙ blank-append image k b in let z : ◌≡◌ {A = ℕ} 0 1 = cc in omega (arith, z))
-    go (some k) e = inl (k, append-blank image k e)
+    go None e = inr (λ k b. let q = sym e ∙ blank-append image k b in let z : ◌≡◌ {A = ℕ} 0 1 = cc in omega (arith, z))
+    go (Some k) e = inl (k, append-blank image k e)
 
 -- ---- refused as changed
 

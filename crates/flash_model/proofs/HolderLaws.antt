@@ -3,8 +3,8 @@ use Prim.Native.Nat.{ℕ, zero, suc, ◌≤◌, ◌<◌}
 use mathlib.Core.Path.{◌≡◌, refl, sym, ap, subst, ◌∙◌}
 use mathlib.Core.Bool.{Bool, true, false, not, cond, ◌&&◌, and-false, true≢false, false≢true}
 use mathlib.Core.List.{List, ◌∷◌, map}
-use mathlib.Core.Option
-use mathlib.Core.Option.{Option, none, some, map-eq-some_iff}
+use Rattle.std.specs.Prelude.{Option, None, Some, option_map}
+use Rattle.std.proofs.lemmas.Option.{none-some, same_Some}
 use mathlib.Core.Logic.{◌↔◌}
 use native.Mathlib.Omega.{arith}
 use lib.Dec.{eqb}
@@ -50,15 +50,15 @@ module _ (image : List ℕ) (n : ℕ) where
     pub legal : legal_number (length image) n ≡ true
     pub highest_one : IsHighest (holds image n) (capacity (length image)) k
 
-  pub holder-held : (k : ℕ) → holder image n ≡ some k → Held k
+  pub holder-held : (k : ℕ) → holder image n ≡ Some k → Held k
   unfolding holder
   holder-held k e = go (legal_number (length image) n) refl e
     where
-      go : (t : Bool) → legal_number (length image) n ≡ t → cond t (highest (holds image n) (capacity (length image))) none ≡ some k → Held k
+      go : (t : Bool) → legal_number (length image) n ≡ t → cond t (highest (holds image n) (capacity (length image))) None ≡ Some k → Held k
       go true q f = record { legal = q; highest_one = highest-some (holds image n) (capacity (length image)) k f }
       go false q f = let z : ◌≡◌ {A = ℕ} 0 1 = cc in absurd (omega arith)
 
-  held-holder : (k : ℕ) → Held k → holder image n ≡ some k
+  held-holder : (k : ℕ) → Held k → holder image n ≡ Some k
   unfolding holder
   held-holder k h = rw h.legal (highest-is (holds image n) (capacity (length image)) k h.highest_one)
 
@@ -89,17 +89,19 @@ module _ (image : List ℕ) (n : ℕ) where
       not-held j a b true e = absurd (h.none_above j a (holds_at image n j (omega arith) b e))
       not-held j a b false e = refl
 
-  contents-highest : (page : List ℕ) → contents image n ≡ some page → HighestHolds image n page
+  contents-highest : (page : List ℕ) → contents image n ≡ Some page → HighestHolds image n page
   unfolding contents
-  contents-highest page e =
-      let (k, f, g) = (map-eq-some_iff (λ k. payload (block_at image k)) (holder image n)).0 e in
-      subst (HighestHolds image n) g (held-highest k (holder-held k f))
+  contents-highest page e = go (holder image n) refl e
+    where
+      go : (o : Option ℕ) → holder image n ≡ o → option_map (λ k. payload (block_at image k)) o ≡ Some page → HighestHolds image n page
+      go None h f = absurd (none-some page f)
+      go (Some k) h f = subst (HighestHolds image n) (same_Some (payload (block_at image k)) page f) (held-highest k (holder-held k h))
 
-  highest-contents : (page : List ℕ) → HighestHolds image n page → contents image n ≡ some page
+  highest-contents : (page : List ℕ) → HighestHolds image n page → contents image n ≡ Some page
   unfolding contents
-  highest-contents page h = rw (held-holder h.at (highest-held page h)) (ap (λ (p : List ℕ). some p) (sym h.page_is))
+  highest-contents page h = rw (held-holder h.at (highest-held page h)) (ap (λ (p : List ℕ). Some p) (sym h.page_is))
 
-  pub contents_are : (page : List ℕ) → (contents image n ≡ some page) ↔ HighestHolds image n page
+  pub contents_are : (page : List ℕ) → (contents image n ≡ Some page) ↔ HighestHolds image n page
   contents_are page = (contents-highest page, highest-contents page)
 
 -- ---- from the list of the allocated blocks
@@ -119,27 +121,27 @@ module _ (image : List ℕ) (n : ℕ) (u : ℕ) (h : u ≤ capacity (length imag
       ∙ highest-same (holds image n) (copy_at image n) u (λ k lo hi. rw (b k lo (omega arith), le-leb k u hi))
 
   -- the holder is searched for among the allocated blocks
-  pub holder-used : holder image n ≡ cond (legal_number (length image) n) (highest (copy_at image n) u) none
+  pub holder-used : holder image n ≡ cond (legal_number (length image) n) (highest (copy_at image n) u) None
   unfolding holder
-  holder-used = ap (λ (o : Option ℕ). cond (legal_number (length image) n) o none) highest-used
+  holder-used = ap (λ (o : Option ℕ). cond (legal_number (length image) n) o None) highest-used
 
   highest-log : highest (holds image n) (capacity (length image)) ≡ last_with (copy_at image n) (numbers_from 1 u)
   highest-log = highest-used ∙ highest-last (copy_at image n) u
 
-  pub contents-log : contents image n ≡ cond (legal_number (length image) n) (Option.map payload (last_with (is_copy n) (log image u))) none
+  pub contents-log : contents image n ≡ cond (legal_number (length image) n) (option_map payload (last_with (is_copy n) (log image u))) None
   unfolding contents holder
   contents-log = go (legal_number (length image) n)
     where
-      apart : (o : Option ℕ) → Option.map (λ k. payload (block_at image k)) o ≡ Option.map payload (Option.map (block_at image) o)
-      apart none = refl
-      apart (some k) = refl
+      apart : (o : Option ℕ) → option_map (λ k. payload (block_at image k)) o ≡ option_map payload (option_map (block_at image) o)
+      apart None = refl
+      apart (Some k) = refl
 
-      go : (t : Bool) → Option.map (λ k. payload (block_at image k)) (cond t (highest (holds image n) (capacity (length image))) none)
-          ≡ cond t (Option.map payload (last_with (is_copy n) (log image u))) none
+      go : (t : Bool) → option_map (λ k. payload (block_at image k)) (cond t (highest (holds image n) (capacity (length image))) None)
+          ≡ cond t (option_map payload (last_with (is_copy n) (log image u))) None
       go true =
-          ap (Option.map (λ k. payload (block_at image k))) highest-log
+          ap (option_map (λ k. payload (block_at image k))) highest-log
           ∙ apart (last_with (copy_at image n) (numbers_from 1 u))
-          ∙ ap (Option.map payload) (sym (last-map (block_at image) (is_copy n) (numbers_from 1 u)))
+          ∙ ap (option_map payload) (sym (last-map (block_at image) (is_copy n) (numbers_from 1 u)))
       go false = refl
 
 -- ---- the list of holders
@@ -148,11 +150,11 @@ module _ (image : List ℕ) where
   pub record HolderAt (k : ℕ) : Type 0 where
     pub here : HoldsAt image (number (block_at image k)) k
     pub legal : legal_number (length image) (number (block_at image k)) ≡ true
-    pub is_holder_lem : holder image (number (block_at image k)) ≡ some k
+    pub is_holder_lem : holder image (number (block_at image k)) ≡ Some k
 
-  place-eq : (o : Option ℕ) (k : ℕ) → is_at o k ≡ true → o ≡ some k
-  place-eq none k e = absurd (false≢true e)
-  place-eq (some j) k e = ap (λ (i : ℕ). some i) (eqb-true j k e)
+  place-eq : (o : Option ℕ) (k : ℕ) → is_at o k ≡ true → o ≡ Some k
+  place-eq None k e = absurd (false≢true e)
+  place-eq (Some j) k e = ap (λ (i : ℕ). Some i) (eqb-true j k e)
 
   pub is-holder-at : (k : ℕ) → is_holder image k ≡ true → HolderAt k
   unfolding is_holder
@@ -208,30 +210,30 @@ module _ (image : List ℕ) where
 
       go : (o : Option ℕ) → holder image n ≡ o
           → highest (λ k. is_at (holder image (number (block_at image k))) k && has_number n (block_at image k)) (capacity (length image)) ≡ o
-      go none q = highest-nothing _ (capacity (length image)) (λ k lo hi. numbered k none q (has_number n (block_at image k)) refl)
-      go (some j) q =
+      go None q = highest-nothing _ (capacity (length image)) (λ k lo hi. numbered k None q (has_number n (block_at image k)) refl)
+      go (Some j) q =
           let h = holder-held image n j q in
           let a = held_at image n j h in
           highest-is _ (capacity (length image)) j (record {
             low = a.low;
             high = a.high;
-            passes = numbered j (some j) q (has_number n (block_at image j)) refl ∙ rw (eq-eqb j j refl, eq-eqb (number (block_at image j)) n a.has_number_lem);
-            none_above = λ k lo hi. numbered k (some j) q (has_number n (block_at image k)) refl ∙ rw (ne_eqb j k (λ e. omega (arith, e, lo)));
+            passes = numbered j (Some j) q (has_number n (block_at image j)) refl ∙ rw (eq-eqb j j refl, eq-eqb (number (block_at image j)) n a.has_number_lem);
+            none_above = λ k lo hi. numbered k (Some j) q (has_number n (block_at image k)) refl ∙ rw (ne_eqb j k (λ e. omega (arith, e, lo)));
           })
 
   -- the last of the holders that has the number holds its contents
-  pub holders-last : (n : ℕ) → Option.map payload (last_with (has_number n) (holders image)) ≡ contents image n
+  pub holders-last : (n : ℕ) → option_map payload (last_with (has_number n) (holders image)) ≡ contents image n
   unfolding holders contents user_blocks
   holders-last n =
-      ap (Option.map payload)
+      ap (option_map payload)
       (last-map (block_at image) (has_number n) (keep (is_holder image) (numbers_from 1 (capacity (length image))))
-      ∙ ap (Option.map (block_at image)) (last-keep (λ k. has_number n (block_at image k)) (is_holder image) (numbers_from 1 (capacity (length image)))
+      ∙ ap (option_map (block_at image)) (last-keep (λ k. has_number n (block_at image k)) (is_holder image) (numbers_from 1 (capacity (length image)))
       ∙ sym (highest-last (λ k. is_holder image k && has_number n (block_at image k)) (capacity (length image))) ∙ holder-of n))
       ∙ joined (holder image n)
     where
-      joined : (o : Option ℕ) → Option.map payload (Option.map (block_at image) o) ≡ Option.map (λ k. payload (block_at image k)) o
-      joined none = refl
-      joined (some k) = refl
+      joined : (o : Option ℕ) → option_map payload (option_map (block_at image) o) ≡ option_map (λ k. payload (block_at image k)) o
+      joined None = refl
+      joined (Some k) = refl
 
   pub others-last : (n m : ℕ) → (m ≡ n → ⊥) → last_with (has_number m) (other_holders image n) ≡ last_with (has_number m) (holders image)
   unfolding other_holders

@@ -3,7 +3,7 @@ use Prim.Native.Nat.{ℕ, ◌≤◌, ◌<◌}
 use mathlib.Core.Path.{◌≡◌, refl, sym, ap, subst, ◌∙◌}
 use mathlib.Core.Bool.{Bool, true, false, ◌&&◌, true≢false, false≢true}
 use mathlib.Core.List.{List}
-use mathlib.Core.Option.{Option, none, some}
+use Rattle.std.specs.Prelude.{Option, None, Some}
 use mathlib.Core.Logic.{◌↔◌, ◌≢◌}
 use native.Mathlib.Omega.{arith}
 use native.Mathlib.Decide.{dec_le}
@@ -32,7 +32,7 @@ refused_not : (image : List ℕ) (partition : ℕ) → (refusal image partition 
 refused_not image partition =
     (λ e. (unrefused-sound image partition e, (unrefused image partition e).1), λ s. subst (λ (p : ℕ). refusal image p ≡ 0) s.1 s.0)
 
-pub contents-length : (image : List ℕ) → Sound image → (n : ℕ) (page : List ℕ) → contents image n ≡ some page → length page ≡ 60
+pub contents-length : (image : List ℕ) → Sound image → (n : ℕ) (page : List ℕ) → contents image n ≡ Some page → length page ≡ 60
 contents-length image s n page e =
     let h = (contents_are image n page).0 e in
     ap length h.page_is
@@ -48,40 +48,40 @@ right_checksum_lem block = (eqb-true (word block 62) (checksum_of (take 62 block
 
 -- ---- the next live number
 
-some_there : {A : Type 0} (o : Option A) → is_some o ≡ true → o ≢ none
-some_there none e q = false≢true e
-some_there (some x) e q = let z : ◌≡◌ {A = ℕ} 0 1 = cc in absurd (omega arith)
+some_there : {A : Type 0} (o : Option A) → is_some o ≡ true → o ≢ None
+some_there None e q = false≢true e
+some_there (Some x) e q = let z : ◌≡◌ {A = ℕ} 0 1 = cc in absurd (omega arith)
 
-there-some : {A : Type 0} (o : Option A) → o ≢ none → is_some o ≡ true
-there-some none n = absurd (n refl)
-there-some (some x) n = refl
+there-some : {A : Type 0} (o : Option A) → o ≢ None → is_some o ≡ true
+there-some None n = absurd (n refl)
+there-some (Some x) n = refl
 
-pub none_there : {A : Type 0} (o : Option A) → is_some o ≡ false → o ≡ none
-none_there none e = refl
-none_there (some x) e = absurd (true≢false e)
+pub none_there : {A : Type 0} (o : Option A) → is_some o ≡ false → o ≡ None
+none_there None e = refl
+none_there (Some x) e = absurd (true≢false e)
 
-live-low : (image : List ℕ) → Sound image → (n : ℕ) → contents image n ≢ none → n < capacity (length image)
+live-low : (image : List ℕ) → Sound image → (n : ℕ) → contents image n ≢ None → n < capacity (length image)
 live-low image s n l = go (contents image n) refl
   where
     go : (o : Option (List ℕ)) → contents image n ≡ o → n < capacity (length image)
-    go none e = absurd (l e)
-    go (some page) e = omega (arith, ((contents_are image n page).0 e).in_range, (sound-measured image s).top_number_lem)
+    go None e = absurd (l e)
+    go (Some page) e = omega (arith, ((contents_are image n page).0 e).in_range, (sound-measured image s).top_number_lem)
 
 abbrev passes : List ℕ → ℕ → ℕ → Bool
 passes image start m = leb start m && is_some (contents image m)
 
-pub none_live : (image : List ℕ) (start : ℕ) → Sound image → lowest_live image start ≡ none → (n : ℕ) → start ≤ n → contents image n ≡ none
+pub none_live : (image : List ℕ) (start : ℕ) → Sound image → lowest_live image start ≡ None → (n : ℕ) → start ≤ n → contents image n ≡ None
 unfolding lowest_live
 none_live image start s e n h = go (contents image n) refl
   where
-    go : (o : Option (List ℕ)) → contents image n ≡ o → o ≡ none
-    go none q = refl
-    go (some page) q =
-        let low = live-low image s n (λ d. some_there (some page) refl (sym q ∙ d)) in
+    go : (o : Option (List ℕ)) → contents image n ≡ o → o ≡ None
+    go None q = refl
+    go (Some page) q =
+        let low = live-low image s n (λ d. some_there (Some page) refl (sym q ∙ d)) in
         let f = lowest-none (passes image start) 0 (capacity (length image)) e n (omega arith) (omega (arith, low)) in
         absurd (true≢false (sym (rw (le-leb start n h, q)) ∙ f))
 
-pub live-none : (image : List ℕ) (start : ℕ) → ((n : ℕ) → start ≤ n → n < capacity (length image) → contents image n ≡ none) → lowest_live image start ≡ none
+pub live-none : (image : List ℕ) (start : ℕ) → ((n : ℕ) → start ≤ n → n < capacity (length image) → contents image n ≡ None) → lowest_live image start ≡ None
 unfolding lowest_live
 live-none image start h = lowest-nothing (passes image start) 0 (capacity (length image)) (λ n a b. go n (omega (arith, b)) (dec_le start n))
   where
@@ -89,14 +89,14 @@ live-none image start h = lowest-nothing (passes image start) 0 (capacity (lengt
     go n b (yes a) = rw (h n a b, le-leb start n a)
     go n b (no a) = rw (lt-leb start n (omega (arith, a)))
 
-pub next_live_lem : (image : List ℕ) (start n : ℕ) → Sound image → (lowest_live image start ≡ some n) ↔ NextLiveIs image start n
+pub next_live_lem : (image : List ℕ) (start n : ℕ) → Sound image → (lowest_live image start ≡ Some n) ↔ NextLiveIs image start n
 unfolding lowest_live
 next_live_lem image start n s = (found, is)
   where
-    between : (m : ℕ) → start ≤ m → passes image start m ≡ false → contents image m ≡ none
+    between : (m : ℕ) → start ≤ m → passes image start m ≡ false → contents image m ≡ None
     between m a e = none_there (contents image m) (rw (le-leb start m a) at e)
 
-    found : lowest_live image start ≡ some n → NextLiveIs image start n
+    found : lowest_live image start ≡ Some n → NextLiveIs image start n
     found e =
         let l = lowest-some (passes image start) 0 (capacity (length image)) n e in
         record {
@@ -109,7 +109,7 @@ next_live_lem image start n s = (found, is)
     below l m b (yes a) = rw (l.none_between m a b, le-leb start m a)
     below l m b (no a) = rw (lt-leb start m (omega (arith, a)))
 
-    is : NextLiveIs image start n → lowest_live image start ≡ some n
+    is : NextLiveIs image start n → lowest_live image start ≡ Some n
     is l =
         lowest-is (passes image start) 0 (capacity (length image)) n (record {
           low = omega arith;

@@ -4,8 +4,8 @@ use Prim.Native.Nat.{ℕ, zero, suc, ◌≤◌, ◌<◌}
 use mathlib.Core.Path.{◌≡◌, refl, sym, ap, ◌∙◌}
 use mathlib.Core.Bool.{Bool, true, false, not, cond}
 use mathlib.Core.List.{List, [], ◌∷◌, ◌++◌, map, map-append}
-use mathlib.Core.Option
-use mathlib.Core.Option.{Option, none, some, some-injective}
+use Rattle.std.specs.Prelude.{Option, None, Some, option_map}
+use Rattle.std.proofs.lemmas.Option.{same_Some}
 use native.Mathlib.Omega.{arith}
 use lib.Dec.{eqb}
 use lib.ListN.{length, length-map}
@@ -24,12 +24,12 @@ use Rattle.flash_model.proofs.SequenceLaws.{keep-length}
 use Rattle.flash_model.proofs.HolderLaws.{HolderAt, is-holder-at, has_number, holders-last}
 
 -- one of these blocks has the number
-pub some-numbered : (n : ℕ) (kept : List (List ℕ)) → is_some (Option.map payload (last_with (has_number n) kept)) ≡ has n (map number kept)
+pub some-numbered : (n : ℕ) (kept : List (List ℕ)) → is_some (option_map payload (last_with (has_number n) kept)) ≡ has n (map number kept)
 some-numbered n kept = some-map (last_with (has_number n) kept) ∙ last-any (has_number n) kept ∙ sym (any-map number (λ x. eqb x n) kept)
   where
-    some-map : (o : Option (List ℕ)) → is_some (Option.map payload o) ≡ is_some o
-    some-map none = refl
-    some-map (some b) = refl
+    some-map : (o : Option (List ℕ)) → is_some (option_map payload o) ≡ is_some o
+    some-map None = refl
+    some-map (Some b) = refl
 
 module _ (image : List ℕ) where
   -- as many numbers are live as there are blocks with different ones, where exactly their numbers have contents
@@ -57,7 +57,7 @@ module _ (image : List ℕ) where
       apart f q =
           let a = (is-holder-at image j e).is_holder_lem in
           let b = (is-holder-at image k f).is_holder_lem in
-          let d : j ≡ k = some-injective j k (sym a ∙ ap (holder image) (sym q) ∙ b) in
+          let d : j ≡ k = same_Some j k (sym a ∙ ap (holder image) (sym q) ∙ b) in
           omega (arith, d, h)
 
       go : has (number (block_at image j)) (map number (map (block_at image) (keep (is_holder image) (numbers_from (suc k) n)))) ≡ false

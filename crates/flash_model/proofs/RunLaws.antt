@@ -3,7 +3,7 @@ use Prim.Native.Nat.{ℕ, zero, suc, ◌≤◌, ◌<◌}
 use mathlib.Core.Path.{◌≡◌, refl, sym, ap, subst, ◌∙◌, fun_ext}
 use mathlib.Core.Bool.{Bool, true, false, not, cond, ◌&&◌, ◌||◌, true≢false, false≢true}
 use mathlib.Core.List.{List, [], ◌∷◌, ◌++◌}
-use mathlib.Core.Option.{Option, none, some}
+use Rattle.std.specs.Prelude.{Option, None, Some}
 use mathlib.Core.Logic.Dec
 use mathlib.Core.Logic.{◌≢◌, ⊎_elim, if_pos, if_neg}
 use native.Mathlib.Omega.{arith}
@@ -104,8 +104,8 @@ module _ (size header : ℕ) (owned : ℕ → Bool) where
   all-stand image (on_pages (claim partition one other)) answer e = go (accepted image (on_pages (claim partition one other)))
     where
       saves : (o : Option ℕ) → AllStand (answered_pages image (saves_at image partition one other o))
-      saves none = tt
-      saves (some slot) = (refl, (refl, tt))
+      saves None = tt
+      saves (Some slot) = (refl, (refl, tt))
 
       go : (t : Bool) → AllStand (answered_pages image (cond t (calls_made image (claim partition one other)) []))
       go true = saves (written_slot image (one ++ other))
@@ -251,7 +251,7 @@ same_start : (owned : ℕ → Bool) (s t : List ℕ) → ((n : ℕ) → owned n 
 unfolding owned_pages
 same_start owned s t h = fun_ext (λ n. go n (owned n) refl)
   where
-    go : (n : ℕ) (o : Bool) → owned n ≡ o → cond o (contents s n) none ≡ cond o (contents t n) none
+    go : (n : ℕ) (o : Bool) → owned n ≡ o → cond o (contents s n) None ≡ cond o (contents t n) None
     go n true e = h n e
     go n false e = refl
 
@@ -367,7 +367,7 @@ module _ (image : List ℕ) (n : ℕ) (expected page image' : List ℕ) (answer 
   unfolding owned_pages
   own-page = rw (eq-eqb n n refl)
 
-  never_refused : Answered image (on_page it) image' answer → (answer.code ≡ 0) × (contents image' n ≡ some page)
+  never_refused : Answered image (on_page it) image' answer → (answer.code ≡ 0) × (contents image' n ≡ Some page)
   unfolding store_replies store_final store_reply store_after
   never_refused a =
       let own : ℕ → Bool = eqb n in
@@ -378,7 +378,7 @@ module _ (image : List ℕ) (n : ℕ) (expected page image' : List ℕ) (answer 
       let f : answer ∷ [] ≡ store_reply (length image) (header_number image) pages it ∷ [] = rw o at r.answers in
       let g : contents image' n ≡ store_after (length image) (header_number image) pages it n = rw o at (r.pages n o) in (
         ap (λ (x : Reply). x.code) (heads f) ∙ z,
-        g ∙ rw z (if_pos (ℕ_discrete n n) refl (some page) (pages n)),
+        g ∙ rw z (if_pos (ℕ_discrete n n) refl (Some page) (pages n)),
       )
 
 pub demand3 : Demand3

@@ -3,7 +3,7 @@ use Prim.Native.Nat.{ℕ, ◌+◌, ◌*◌, ◌≤◌, ◌<◌}
 use mathlib.Core.Path.{◌≡◌, refl, sym, ◌∙◌}
 use mathlib.Core.Bool.{Bool, true, false, not, ◌||◌, true≢false, false≢true}
 use mathlib.Core.List.{List, ◌++◌}
-use mathlib.Core.Option.{Option, none, some}
+use Rattle.std.specs.Prelude.{Option, None, Some}
 use mathlib.Core.Logic.{◌↔◌, ◌≢◌, ◌⊎◌, inl, inr, ⊎_elim}
 use native.Mathlib.Omega.{arith}
 use lib.Dec.{eqb, ltb}
@@ -104,8 +104,8 @@ module _ (image : List ℕ) (partition : ℕ) (passed : slot_refusal image parti
   says-product product = go (product_slot image product) refl
     where
       go : (o : Option ℕ) → product_slot image product ≡ o → Says (not (is_some o)) (NoProduct image product) ((slot : ℕ) × LowestProduct image slot product)
-      go none q = record { applies = λ e. product-none image product q; passes = λ e. absurd (true≢false e); apart = λ n l. n l.0 l.1.here }
-      go (some slot) q = record { applies = λ e. absurd (false≢true e); passes = λ e. (slot, product_found image product slot q); apart = λ n l. n l.0 l.1.here }
+      go None q = record { applies = λ e. product-none image product q; passes = λ e. absurd (true≢false e); apart = λ n l. n l.0 l.1.here }
+      go (Some slot) q = record { applies = λ e. absurd (false≢true e); passes = λ e. (slot, product_found image product slot q); apart = λ n l. n l.0 l.1.here }
 
   pub find_codes : (product : List ℕ) → SlotFindCodes image product (code_of image (on_whole (slot_find partition product)))
   unfolding code_of find_rows
@@ -126,17 +126,17 @@ module _ (image : List ℕ) (partition : ℕ) (passed : slot_refusal image parti
     where
       go : (o : Option ℕ) → product_slot image (take 10 (drop 2 header)) ≡ o → (f : Option ℕ) → free_slot image ≡ f
           → Says (not (is_some (or_else o f))) (AllTaken image (take 10 (drop 2 header))) (AllTaken image (take 10 (drop 2 header)) → ⊥)
-      go (some slot) q f r = record {
+      go (Some slot) q f r = record {
         applies = λ e. absurd (false≢true e);
         passes = λ e a. a.1 slot (product_found image (take 10 (drop 2 header)) slot q).here;
         apart = λ a d. d a;
       }
-      go none q (some slot) r = record {
+      go None q (Some slot) r = record {
         applies = λ e. absurd (false≢true e);
         passes = λ e a. (free-found image slot r).not_valid (a.0 slot (free-most image slot r));
         apart = λ a d. d a;
       }
-      go none q none r = record {
+      go None q None r = record {
         applies = λ e. (free-none image r, product-none image (take 10 (drop 2 header)) q);
         passes = λ e. absurd (true≢false e);
         apart = λ a d. d a;

@@ -3,7 +3,7 @@ use Prim.Native.Nat.{ℕ, ◌≤◌}
 use mathlib.Core.Path.{◌≡◌, refl, sym, ap, ◌∙◌}
 use mathlib.Core.Bool.{Bool, true, false, not, ◌&&◌, true≢false, false≢true}
 use mathlib.Core.List.{List}
-use mathlib.Core.Option.{Option, none, some}
+use Rattle.std.specs.Prelude.{Option, None, Some}
 use mathlib.Core.Logic.{◌↔◌}
 use native.Mathlib.Omega.{arith}
 use lib.Dec.{leb}
@@ -21,15 +21,15 @@ use Rattle.flash_model.proofs.ClaimLaws.{slot-count, free-lowest, free-most}
 -- ---- headers
 
 module _ (image : List ℕ) (slot : ℕ) where
-  header_of : (header : List ℕ) → slot_header image slot ≡ some header → right_header header ≡ true → HeaderIs image slot header
+  header_of : (header : List ℕ) → slot_header image slot ≡ Some header → right_header header ≡ true → HeaderIs image slot header
   unfolding slot_header
   header_of header e r = go (contents image (slot_number slot 0)) refl (contents image (slot_number slot 1)) refl e
     where
       go : (a : Option (List ℕ)) → contents image (slot_number slot 0) ≡ a → (b : Option (List ℕ)) → contents image (slot_number slot 1) ≡ b
-          → joined a b ≡ some header → HeaderIs image slot header
-      go none p b q f = let z : ◌≡◌ {A = ℕ} 0 1 = cc in absurd (omega (arith, z))
-      go (some a) p none q f = let z : ◌≡◌ {A = ℕ} 0 1 = cc in absurd (omega (arith, z))
-      go (some a) p (some b) q f =
+          → joined a b ≡ Some header → HeaderIs image slot header
+      go None p b q f = let z : ◌≡◌ {A = ℕ} 0 1 = cc in absurd (omega (arith, z))
+      go (Some a) p None q f = let z : ◌≡◌ {A = ℕ} 0 1 = cc in absurd (omega (arith, z))
+      go (Some a) p (Some b) q f =
           let w = right-bytes header r in
           record {
             one = a;
@@ -40,7 +40,7 @@ module _ (image : List ℕ) (slot : ℕ) where
             makes_valid = w;
           }
 
-  of-header : (header : List ℕ) → HeaderIs image slot header → (slot_header image slot ≡ some header) × (right_header header ≡ true)
+  of-header : (header : List ℕ) → HeaderIs image slot header → (slot_header image slot ≡ Some header) × (right_header header ≡ true)
   unfolding slot_header
   of-header header h =
       let a = ap (contents image) (header-first slot) ∙ h.first_block_lem in
@@ -53,16 +53,16 @@ module _ (image : List ℕ) (slot : ℕ) where
   valid_slot_lem = (λ e. go (slot_header image slot) refl e, λ h. let w = of-header h.0 h.1 in rw (w.0, w.1))
     where
       go : (o : Option (List ℕ)) → slot_header image slot ≡ o → is_right o ≡ true → (header : List ℕ) × HeaderIs image slot header
-      go none q e = absurd (false≢true e)
-      go (some header) q e = (header, header_of header q e)
+      go None q e = absurd (false≢true e)
+      go (Some header) q e = (header, header_of header q e)
 
   product_at : (product : List ℕ) → slot ≤ 99 → has_product product (slot_header image slot) ≡ true → ProductAt image slot product
   unfolding product_of
   product_at product most e = go (slot_header image slot) refl e
     where
       go : (o : Option (List ℕ)) → slot_header image slot ≡ o → has_product product o ≡ true → ProductAt image slot product
-      go none q e = absurd (false≢true e)
-      go (some header) q e = record {
+      go None q e = absurd (false≢true e)
+      go (Some header) q e = record {
         is_slot = most;
         header = header;
         is_valid = header_of header q (and-true-left (right_header header) _ e);
@@ -85,7 +85,7 @@ module _ (image : List ℕ) where
 
   -- ---- searches
 
-  pub product_found : (product : List ℕ) (slot : ℕ) → product_slot image product ≡ some slot → LowestProduct image slot product
+  pub product_found : (product : List ℕ) (slot : ℕ) → product_slot image product ≡ Some slot → LowestProduct image slot product
   unfolding product_slot
   product_found product slot e =
       let w = lowest-some (λ k. has_product product (slot_header image k)) 0 slot_count slot e in
@@ -94,14 +94,14 @@ module _ (image : List ℕ) where
         none_below = λ k h p. true≢false (sym (at-product image k product p) ∙ w.none_below k (omega arith) h);
       }
 
-  pub product-none : (product : List ℕ) → product_slot image product ≡ none → NoProduct image product
+  pub product-none : (product : List ℕ) → product_slot image product ≡ None → NoProduct image product
   unfolding product_slot
   product-none product e slot p =
       let most = p.is_slot in
       let q = lowest-none (λ k. has_product product (slot_header image k)) 0 slot_count e slot (omega arith) (omega (arith, most, slot-count)) in
       true≢false (sym (at-product image slot product p) ∙ q)
 
-  pub free-found : (slot : ℕ) → free_slot image ≡ some slot → LowestNotValid image slot
+  pub free-found : (slot : ℕ) → free_slot image ≡ Some slot → LowestNotValid image slot
   free-found slot e =
       let w = free-lowest image slot e in
       let most = free-most image slot e in
@@ -111,12 +111,12 @@ module _ (image : List ℕ) where
         all_below = λ k h. is_slot k (omega (arith, h, most)) (not-false (valid_slot image k) (w.none_below k (omega arith) h));
       }
 
-  pub free-none : free_slot image ≡ none → (slot : ℕ) → slot ≤ 99 → IsSlot image slot
+  pub free-none : free_slot image ≡ None → (slot : ℕ) → slot ≤ 99 → IsSlot image slot
   unfolding free_slot
   free-none e slot most =
       is_slot slot most (not-false (valid_slot image slot) (lowest-none (λ k. not (valid_slot image k)) 0 slot_count e slot (omega arith) (omega (arith, most, slot-count))))
 
-  pub next-found : (start slot : ℕ) → lowest_valid image start ≡ some slot → NextSlotIs image start slot
+  pub next-found : (start slot : ℕ) → lowest_valid image start ≡ Some slot → NextSlotIs image start slot
   unfolding lowest_valid
   next-found start slot e =
       let p : ℕ → Bool = λ k. leb start k && valid_slot image k in
@@ -127,7 +127,7 @@ module _ (image : List ℕ) where
         none_between = λ k a b h. true≢false (sym (rw (le-leb start k a) ((valid_slot_lem image k).1 h.1)) ∙ w.none_below k (omega arith) b);
       }
 
-  pub next-nothing : (start : ℕ) → lowest_valid image start ≡ none → (slot : ℕ) → start ≤ slot → IsSlot image slot → ⊥
+  pub next-nothing : (start : ℕ) → lowest_valid image start ≡ None → (slot : ℕ) → start ≤ slot → IsSlot image slot → ⊥
   unfolding lowest_valid
   next-nothing start e slot a h =
       let most = h.0 in

@@ -3,7 +3,8 @@ use Prim.Native.Nat.{ℕ, suc, ◌+◌, ◌*◌, ◌-◌, ◌/◌, ◌%◌, ◌�
 use mathlib.Core.Path.{◌≡◌, refl, sym, ap, subst, ◌∙◌}
 use mathlib.Core.Bool.{Bool, true, false, cond, true≢false}
 use mathlib.Core.List.{List, [], ◌∷◌, ◌++◌, append_assoc}
-use mathlib.Core.Option.{Option, none, some, some-injective}
+use Rattle.std.specs.Prelude.{Option, None, Some}
+use Rattle.std.proofs.lemmas.Option.{same_Some}
 use mathlib.Core.Logic.{◌≢◌, ◌⊎◌, inl, inr}
 use native.Mathlib.Omega.{arith}
 use lib.Dec.{eqb, leb, ltb}
@@ -136,8 +137,8 @@ module _ (one other : ℕ → List ℕ) where
 pub record SlotPages (one other : ℕ → List ℕ) (image : List ℕ) : Type 0 where
   pub is_partition : Witness 32768 3 image
   pub all_used : used image ≡ capacity 32768
-  pub first_page : (slot : ℕ) → slot ≤ 99 → contents image (24 + 4 * slot) ≡ some (one slot)
-  pub second_page : (slot : ℕ) → slot ≤ 99 → contents image (25 + 4 * slot) ≡ some (other slot)
+  pub first_page : (slot : ℕ) → slot ≤ 99 → contents image (24 + 4 * slot) ≡ Some (one slot)
+  pub second_page : (slot : ℕ) → slot ≤ 99 → contents image (25 + 4 * slot) ≡ Some (other slot)
 
 pub record SixtyBytes (page : List ℕ) : Type 0 where
   pub are_bytes : Bytes page
@@ -160,24 +161,24 @@ paged one other a b =
       record {
         is_partition = w.1;
         all_used = w.2;
-        first_page = λ slot h. w.3 (24 + 4 * slot) (omega (arith, slot-top 32768 slot 0 refl h (omega arith))) ∙ ap (λ (p : List ℕ). some p) (page-one one other slot h);
-        second_page = λ slot h. w.3 (25 + 4 * slot) (omega (arith, slot-top 32768 slot 1 refl h (omega arith))) ∙ ap (λ (p : List ℕ). some p) (page-other one other slot h);
+        first_page = λ slot h. w.3 (24 + 4 * slot) (omega (arith, slot-top 32768 slot 0 refl h (omega arith))) ∙ ap (λ (p : List ℕ). Some p) (page-one one other slot h);
+        second_page = λ slot h. w.3 (25 + 4 * slot) (omega (arith, slot-top 32768 slot 1 refl h (omega arith))) ∙ ap (λ (p : List ℕ). Some p) (page-other one other slot h);
       },
     )
 
 -- a slot whose first block is zeros doesn't start with 01
-pub zeros-first : (image : List ℕ) (k : ℕ) → contents image (24 + 4 * k) ≡ some zeros → IsSlot image k → ⊥
+pub zeros-first : (image : List ℕ) (k : ℕ) → contents image (24 + 4 * k) ≡ Some zeros → IsSlot image k → ⊥
 unfolding zeros
 zeros-first image k e v =
     let x = v.1.1 in
-    let q : x.one ≡ replicate 60 0 = some-injective x.one (replicate 60 0) (sym x.first_block_lem ∙ e) in
+    let q : x.one ≡ replicate 60 0 = same_Some x.one (replicate 60 0) (sym x.first_block_lem ∙ e) in
     let z : get_or (replicate 60 0 ++ x.other) 0 0 ≡ 1 = ap (λ (l : List ℕ). get_or (l ++ x.other) 0 0) (sym q) ∙ ap (λ (l : List ℕ). get_or l 0 0) (sym x.header_is) ∙ x.makes_valid.0 in
     absurd (omega (arith, z))
 
 -- ---- calls on such a partition
 
 pub header-there : (image : List ℕ) (slot : ℕ) (product one other : List ℕ) → HeaderFor product one other
-    → contents image (24 + 4 * slot) ≡ some one → contents image (25 + 4 * slot) ≡ some other → HeaderIs image slot (one ++ other)
+    → contents image (24 + 4 * slot) ≡ Some one → contents image (25 + 4 * slot) ≡ Some other → HeaderIs image slot (one ++ other)
 header-there image slot product one other h p q =
     record { one = one; other = other; first_block_lem = p; second_block = q; header_is = refl; makes_valid = h.makes_valid }
 
@@ -207,13 +208,13 @@ module _ (image : List ℕ) (w : Witness 32768 3 image) where
       (slot-rules.find_codes image 3 product is_open).row_0.1 (product-ten product one other h, go (product_slot image product) refl)
     where
       go : (o : Option ℕ) → product_slot image product ≡ o → (k : ℕ) × LowestProduct image k product
-      go none e = absurd (product-none image product e slot (record { is_slot = most; header = one ++ other; is_valid = v; product_is = h.product_is }))
-      go (some k) e = (k, product_found image product k e)
+      go None e = absurd (product-none image product e slot (record { is_slot = most; header = one ++ other; is_valid = v; product_is = h.product_is }))
+      go (Some k) e = (k, product_found image product k e)
 
   pub same_header : (slot : ℕ) (a b : List ℕ) → HeaderIs image slot a → HeaderIs image slot b → a ≡ b
   same_header slot a b p q =
-      let e = some-injective p.one q.one (sym p.first_block_lem ∙ q.first_block_lem) in
-      let f = some-injective p.other q.other (sym p.second_block ∙ q.second_block) in
+      let e = same_Some p.one q.one (sym p.first_block_lem ∙ q.first_block_lem) in
+      let f = same_Some p.other q.other (sym p.second_block ∙ q.second_block) in
       let r : p.one ++ p.other ≡ q.one ++ q.other = rw (e, f) in
       p.header_is ∙ r ∙ sym q.header_is
 

@@ -3,7 +3,7 @@ use Prim.Native.Nat.{ℕ, ◌+◌, ◌*◌, ◌≤◌}
 use mathlib.Core.Path.{◌≡◌, refl, sym, ap, subst, ◌∙◌}
 use mathlib.Core.Bool.{false, not, true≢false}
 use mathlib.Core.List.{List, [], ◌∷◌}
-use mathlib.Core.Option.{Option, none, some}
+use Rattle.std.specs.Prelude.{Option, None, Some}
 use mathlib.Core.Logic.{◌≢◌, ◌⊎◌, inl, inr}
 use lib.Dec.{eqb}
 use lib.ListN.{length, length-append}
@@ -32,9 +32,9 @@ use Rattle.flash_model.proofs.ClaimRuleLaws.{claim_gives, claims_alike, claims_i
 -- ---- what accepted calls give
 
 -- the one that a search found
-found : (o : Option ℕ) → not (is_some o) ≡ false → (slot : ℕ) × (o ≡ some slot)
-found none e = absurd (true≢false e)
-found (some slot) e = (slot, refl)
+found : (o : Option ℕ) → not (is_some o) ≡ false → (slot : ℕ) × (o ≡ Some slot)
+found None e = absurd (true≢false e)
+found (Some slot) e = (slot, refl)
 
 module _ (image : List ℕ) (partition : ℕ) (image' : List ℕ) (answer : Reply) where
   find_gives : (product : List ℕ) → Answered image (on_whole (slot_find partition product)) image' answer → answer.code ≡ 0
@@ -59,16 +59,16 @@ module _ (image : List ℕ) (partition : ℕ) (image' : List ℕ) (answer : Repl
       (w.0, accepted-values image c image' answer a e ∙ ap to_list w.1, next-found image start w.0 w.1)
 
   read_gives : (slot block : ℕ) (buffer : List ℕ) → Answered image (on_page (slot_read partition slot block buffer)) image' answer → answer.code ≡ 0
-      → (page : List ℕ) × (answer.buffers ≡ page ∷ []) × (contents image (26 + 4 * slot + block) ≡ some page)
+      → (page : List ℕ) × (answer.buffers ≡ page ∷ []) × (contents image (26 + 4 * slot + block) ≡ Some page)
   read_gives slot block buffer a e =
       let c = on_page (slot_read partition slot block buffer) in
       let r = slot-read-rows image partition slot block buffer (sym (answered-code image c image' answer a) ∙ e) in
       go (contents image (data_number slot block)) refl r.1.there (accepted-buffers image c image' answer a e)
     where
-      go : (o : Option (List ℕ)) → contents image (data_number slot block) ≡ o → o ≢ none → answer.buffers ≡ to_list (contents image (data_number slot block))
-          → (page : List ℕ) × (answer.buffers ≡ page ∷ []) × (contents image (26 + 4 * slot + block) ≡ some page)
-      go none q t b = absurd (t refl)
-      go (some page) q t b = (page, b ∙ ap to_list q, ap (contents image) (sym (data_is slot block)) ∙ q)
+      go : (o : Option (List ℕ)) → contents image (data_number slot block) ≡ o → o ≢ None → answer.buffers ≡ to_list (contents image (data_number slot block))
+          → (page : List ℕ) × (answer.buffers ≡ page ∷ []) × (contents image (26 + 4 * slot + block) ≡ Some page)
+      go None q t b = absurd (t refl)
+      go (Some page) q t b = (page, b ∙ ap to_list q, ap (contents image) (sym (data_is slot block)) ∙ q)
 
 list_none : (image : List ℕ) (partition start : ℕ) → slot_refusal image partition ≡ 0
     → code_of image (on_whole (slot_list partition start)) ≢ 0
@@ -78,8 +78,8 @@ list_none image partition start s refused = go (lowest_valid image start) refl
   where
     go : (o : Option ℕ) → lowest_valid image start ≡ o
         → (first (slot_refusal image partition) (row 7 (not (is_some (lowest_valid image start))) 0) ≡ 7) × ((slot : ℕ) → start ≤ slot → IsSlot image slot → ⊥)
-    go none q = (rw (s, q), next-nothing image start q)
-    go (some n) q = absurd (refused (rw (s, q)))
+    go None q = (rw (s, q), next-nothing image start q)
+    go (Some n) q = absurd (refused (rw (s, q)))
 
 -- ---- saves
 
@@ -106,7 +106,7 @@ module _ (image : List ℕ) (partition slot block : ℕ) (expected page image' :
           (r.1.in_range, codes.0, codes.1.1.1 ∙ ap (contents image) (sym (data_is slot block)))
 
   never_refused : SlotImage image → partition ≡ 3 → IsSlot image slot → block ≤ 1 → length page ≡ 60 → expected_page expected ≡ contents image (26 + 4 * slot + block)
-      → (answer.code ≡ 0) × (contents image' (26 + 4 * slot + block) ≡ some page)
+      → (answer.code ≡ 0) × (contents image' (26 + 4 * slot + block) ≡ Some page)
   never_refused i p h b l e =
       let c = on_page (slot_save partition slot block expected page) in
       let o : slot_refusal image partition ≡ 0 = ap (slot_refusal image) p ∙ slot-image-open image i in

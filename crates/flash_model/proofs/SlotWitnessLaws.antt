@@ -3,7 +3,7 @@ use Prim.Native.Nat.{ℕ, zero, suc, ◌+◌, ◌*◌, ◌-◌, ◌≤◌, ◌<�
 use mathlib.Core.Path.{◌≡◌, refl, sym, ap, subst, ◌∙◌}
 use mathlib.Core.Bool.{Bool, true, false, cond}
 use mathlib.Core.List.{List, [], ◌∷◌, ◌++◌}
-use mathlib.Core.Option.{Option, none, some}
+use Rattle.std.specs.Prelude.{Option, None, Some}
 use mathlib.Core.Logic.{◌≢◌, ◌⊎◌, inl, inr, ⊎_elim}
 use native.Mathlib.Omega.{arith}
 use native.Mathlib.Decide.{ℕ_discrete}
@@ -85,7 +85,7 @@ module _ (product one other : List ℕ) (h : HeaderFor product one other) where
       let w = not-vacuous.empty 32768 3 ((not-vacuous.three_sizes 32768).1 (inr (inl refl))) (omega arith) in
       (w.0, of w.0 w.1 w.3)
     where
-      of : (image : List ℕ) → Witness 32768 3 image → ((n : ℕ) → contents image n ≡ none) → BlankPartition image one other
+      of : (image : List ℕ) → Witness 32768 3 image → ((n : ℕ) → contents image n ≡ None) → BlankPartition image one other
       of image w empty = record {
         is_partition = w;
         none_live = empty;
@@ -94,7 +94,7 @@ module _ (product one other : List ℕ) (h : HeaderFor product one other) where
         is_written = first-written h image w none_valid;
       }
         where
-          first-missing : {page : List ℕ} → ◌≡◌ {A = Option (List ℕ)} none (some page) → ◌≡◌ {A = ℕ} 0 1
+          first-missing : {page : List ℕ} → ◌≡◌ {A = Option (List ℕ)} None (Some page) → ◌≡◌ {A = ℕ} 0 1
           first-missing e = cc
 
           none_valid : (k : ℕ) → IsSlot image k → ⊥
@@ -182,8 +182,8 @@ module _ (slot : ℕ) (product one other new new_one new_other : List ℕ) (most
         where
           valid : HeaderIs image slot (one ++ other)
           valid =
-              header-there image slot product one other h (p.first_page slot most ∙ ap (λ (l : List ℕ). some l) here-one)
-              (p.second_page slot most ∙ ap (λ (l : List ℕ). some l) here-other)
+              header-there image slot product one other h (p.first_page slot most ∙ ap (λ (l : List ℕ). Some l) here-one)
+              (p.second_page slot most ∙ ap (λ (l : List ℕ). Some l) here-other)
 
           only : (k : ℕ) → IsSlot image k → Dec (k ≡ slot) → k ≡ slot
           only k v (yes e) = e

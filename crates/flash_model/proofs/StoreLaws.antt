@@ -3,7 +3,7 @@ use Prim.Native.Nat.{ℕ, zero, suc, ◌≤◌, ◌<◌}
 use mathlib.Core.Path.{◌≡◌, refl, sym, ap, ◌∙◌}
 use mathlib.Core.Bool.{Bool, true, false, not, cond, ◌&&◌, ◌||◌, true≢false}
 use mathlib.Core.List.{List, [], ◌∷◌, ◌++◌}
-use mathlib.Core.Option.{Option, none, some}
+use Rattle.std.specs.Prelude.{Option, None, Some}
 use mathlib.Core.Logic.Dec
 use mathlib.Core.Logic.{◌≢◌, ite, if_pos, if_neg}
 use native.Mathlib.Omega.{arith}
@@ -107,14 +107,14 @@ is-so (no n) d = absurd (d n)
 
 -- a slot's header by its tests and by plain facts
 right-true : (a b : Option (List ℕ)) → RightBytes (both_pages a b) → is_right (joined a b) ≡ true
-right-true none b r = absurd (omega (arith, r.0))
-right-true (some a) none r = absurd (omega (arith, r.0))
-right-true (some a) (some b) r = bytes-right (a ++ b) r
+right-true None b r = absurd (omega (arith, r.0))
+right-true (Some a) None r = absurd (omega (arith, r.0))
+right-true (Some a) (Some b) r = bytes-right (a ++ b) r
 
 right-false : (a b : Option (List ℕ)) → (RightBytes (both_pages a b) → ⊥) → is_right (joined a b) ≡ false
-right-false none b d = refl
-right-false (some a) none d = refl
-right-false (some a) (some b) d = go (right_header (a ++ b)) refl
+right-false None b d = refl
+right-false (Some a) None d = refl
+right-false (Some a) (Some b) d = go (right_header (a ++ b)) refl
   where
     go : (t : Bool) → right_header (a ++ b) ≡ t → t ≡ false
     go false e = refl
@@ -181,19 +181,19 @@ module _ (size header : ℕ) (owned : ℕ → Bool) where
         legal-again false q h = absurd (true≢false (sym (le-legal size n (omega (arith, h))) ∙ q))
 
     -- the last row of a read and of a save, of a number whose page is the same
-    read-last : (n : ℕ) → contents image n ≡ pages n → row 7 (not (is_some (contents image n))) 0 ≡ given (same_page (pages n) none) 7 0
-    read-last n q = rw q (same_row (same_page (pages n) none) (not (is_some (pages n))) 7 0 0 (λ e. rw e) (λ d. there (pages n) d) refl)
+    read-last : (n : ℕ) → contents image n ≡ pages n → row 7 (not (is_some (contents image n))) 0 ≡ given (same_page (pages n) None) 7 0
+    read-last n q = rw q (same_row (same_page (pages n) None) (not (is_some (pages n))) 7 0 0 (λ e. rw e) (λ d. there (pages n) d) refl)
       where
-        there : (o : Option (List ℕ)) → (o ≡ none → ⊥) → not (is_some o) ≡ false
-        there none d = absurd (d refl)
-        there (some page) d = refl
+        there : (o : Option (List ℕ)) → (o ≡ None → ⊥) → not (is_some o) ≡ false
+        there None d = absurd (d refl)
+        there (Some page) d = refl
 
     save-last : (n : ℕ) (expected : List ℕ) → contents image n ≡ pages n
         → row 9 (changed_since image n expected) 0 ≡ given (Dec.not (same_page (expected_page expected) (pages n))) 9 0
     unfolding changed_since
     save-last n expected q = rw q (same_row (Dec.not (same_page (expected_page expected) (pages n))) (differs (pages n) expected) 9 0 0 changed unchanged refl)
       where
-        long : (page : List ℕ) → pages n ≡ some page → length page ≡ 60
+        long : (page : List ℕ) → pages n ≡ Some page → length page ≡ 60
         long page e = contents-length image agree.is_sound n page (q ∙ e)
 
         changed : (expected_page expected ≢ pages n) → differs (pages n) expected ≡ true
@@ -253,13 +253,13 @@ module _ (size header : ℕ) (owned : ℕ → Bool) where
     -- ---- the reply
 
     -- of a read of number n, where its page is the same
-    read-agrees : (answered n : ℕ) (buffer : List ℕ) → (answered ≡ 0 → (contents image n ≡ pages n) × (contents image n ≢ none))
+    read-agrees : (answered n : ℕ) (buffer : List ℕ) → (answered ≡ 0 → (contents image n ≡ pages n) × (contents image n ≢ None))
         → cond (eqb answered 0) (to_list (contents image n)) (buffer ∷ []) ≡ read_buffer answered (pages n) buffer ∷ []
     read-agrees zero n buffer h = rw (h refl).0 (go (pages n) (λ e. (h refl).1 ((h refl).0 ∙ e)))
       where
-        go : (o : Option (List ℕ)) → o ≢ none → to_list o ≡ read_buffer zero o buffer ∷ []
-        go none t = absurd (t refl)
-        go (some page) t = refl
+        go : (o : Option (List ℕ)) → o ≢ None → to_list o ≡ read_buffer zero o buffer ∷ []
+        go None t = absurd (t refl)
+        go (Some page) t = refl
     read-agrees (suc refused) n buffer h = rw (eqb-suc-zero refused)
 
     pub reply-agrees : (p : PageCall) → on_owned owned p ≡ true → reply_to image (on_page p) ≡ store_reply size header pages p
@@ -317,7 +317,7 @@ module _ (image : List ℕ) (s : Sound image) where
   rows-keep partition n page r = saved-keeps image s n page r.in_range r.page_60
 
   pub rows-contents : (partition n : ℕ) (page : List ℕ) → AcceptedSave image partition n page → (m : ℕ)
-      → contents (saved image n page) m ≡ cond (eqb n m) (some page) (contents image m)
+      → contents (saved image n page) m ≡ cond (eqb n m) (Some page) (contents image m)
   rows-contents partition n page r m = saved-contents image s n page r.in_range r.page_60 m
 
   changed-page-keeps : (p : PageCall) → code_of image (on_page p) ≡ 0 → Keeps image (page_image image p)
@@ -407,15 +407,15 @@ module _ (size header : ℕ) (owned : ℕ → Bool) (image : List ℕ) (pages : 
   -- an accepted save of an owned number, in the image and in the store
   fed-save : (partition n : ℕ) (page : List ℕ) (p : PageCall) → changed_image image (on_page p) ≡ saved image n page
       → (code_of image (on_page p) ≡ 0 → AcceptedSave image partition n page) → (m : ℕ) → owned m ≡ true → (answered : ℕ) → code_of image (on_page p) ≡ answered
-      → contents (after image (on_page p)) m ≡ cond (eqb answered 0) (ite (ℕ_discrete m n) (some page) (pages m)) (pages m)
+      → contents (after image (on_page p)) m ≡ cond (eqb answered 0) (ite (ℕ_discrete m n) (Some page) (pages m)) (pages m)
   fed-save partition n page p image_is rows m om zero e =
       ap (λ (r : List ℕ). contents r m) (after-done image (on_page p) e ∙ image_is)
       ∙ rows-contents image agree.is_sound partition n page (rows e) m
       ∙ stored (ℕ_discrete m n) (agree.same_pages m om)
     where
-      stored : Dec (m ≡ n) → contents image m ≡ pages m → cond (eqb n m) (some page) (contents image m) ≡ ite (ℕ_discrete m n) (some page) (pages m)
-      stored (yes e) q = rw (eq-eqb n m (sym e)) (sym (if_pos (ℕ_discrete m n) e (some page) (pages m)))
-      stored (no d) q = rw (ne_eqb n m (λ e. d (sym e))) (q ∙ sym (if_neg (ℕ_discrete m n) d (some page) (pages m)))
+      stored : Dec (m ≡ n) → contents image m ≡ pages m → cond (eqb n m) (Some page) (contents image m) ≡ ite (ℕ_discrete m n) (Some page) (pages m)
+      stored (yes e) q = rw (eq-eqb n m (sym e)) (sym (if_pos (ℕ_discrete m n) e (Some page) (pages m)))
+      stored (no d) q = rw (ne_eqb n m (λ e. d (sym e))) (q ∙ sym (if_neg (ℕ_discrete m n) d (Some page) (pages m)))
   fed-save partition n page p image_is rows m om (suc refused) e =
       ap (λ (r : List ℕ). contents r m) (after-refused image (on_page p) refused e) ∙ agree.same_pages m om ∙ rw (eqb-suc-zero refused)
 
@@ -428,7 +428,7 @@ module _ (size header : ℕ) (owned : ℕ → Bool) (image : List ℕ) (pages : 
       (code-agrees size header owned image pages agree (save partition n expected page) o)
       ∙ go (store_code size header pages (save partition n expected page))
     where
-      go : (answered : ℕ) → cond (eqb answered 0) (ite (ℕ_discrete m n) (some page) (pages m)) (pages m)
+      go : (answered : ℕ) → cond (eqb answered 0) (ite (ℕ_discrete m n) (Some page) (pages m)) (pages m)
           ≡ pages_after answered pages (save partition n expected page) m
       go zero = refl
       go (suc refused) = rw (eqb-suc-zero refused)
@@ -440,7 +440,7 @@ module _ (size header : ℕ) (owned : ℕ → Bool) (image : List ℕ) (pages : 
       (code-agrees size header owned image pages agree (slot_save partition slot block expected page) o)
       ∙ go (store_code size header pages (slot_save partition slot block expected page))
     where
-      go : (answered : ℕ) → cond (eqb answered 0) (ite (ℕ_discrete m (data_number slot block)) (some page) (pages m)) (pages m)
+      go : (answered : ℕ) → cond (eqb answered 0) (ite (ℕ_discrete m (data_number slot block)) (Some page) (pages m)) (pages m)
           ≡ pages_after answered pages (slot_save partition slot block expected page) m
       go zero = refl
       go (suc refused) = rw (eqb-suc-zero refused)

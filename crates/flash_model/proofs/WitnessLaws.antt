@@ -4,8 +4,7 @@ use Prim.Native.Nat.{ℕ, zero, suc, ◌+◌, ◌*◌, ◌-◌, ◌≤◌, ◌<�
 use mathlib.Core.Path.{◌≡◌, refl, sym, ap, subst, ◌∙◌}
 use mathlib.Core.Bool.{Bool, true, false, cond, ◌||◌, true≢false, false≢true}
 use mathlib.Core.List.{List, [], ◌∷◌, ◌++◌, map}
-use mathlib.Core.Option
-use mathlib.Core.Option.{Option, none, some}
+use Rattle.std.specs.Prelude.{Option, None, Some, option_map}
 use mathlib.Core.Logic.{◌↔◌, ◌⊎◌, inl, inr}
 use native.Mathlib.Omega.{arith}
 use lib.Dec.{eqb, leb}
@@ -135,10 +134,10 @@ module _ (size partition : ℕ) (legal : legal_size size ≡ true) where
           let a = allocated-used formatted formatted-sound 1 lo (rw formatted-length hi) in
           absurd (true≢false (sym (le-leb 1 (suc u) (omega arith)) ∙ ap (leb 1) (sym e) ∙ sym a ∙ free 1 lo hi))
 
-  nothing : (n : ℕ) → contents formatted n ≡ none
+  nothing : (n : ℕ) → contents formatted n ≡ None
   nothing n = contents-log formatted n 0 (omega arith) (rw formatted-length none-up-to) ∙ go (legal_number (length formatted) n)
     where
-      go : (t : Bool) → cond {A = Option (List ℕ)} t none none ≡ none
+      go : (t : Bool) → cond {A = Option (List ℕ)} t None None ≡ None
       go true = refl
       go false = refl
 
@@ -198,17 +197,17 @@ module _ (size partition : ℕ) (page : ℕ → List ℕ) (legal : legal_size si
       let number_is = header-number base full k.same_header ∙ formatted-number size partition legal in
       (k.same_length ∙ base-length, subst (λ (p : ℕ). refusal full p ≡ 0) number_is k.still_sound)
 
-  full-contents : (n : ℕ) → n ≤ top_number size → contents full n ≡ some (page n)
+  full-contents : (n : ℕ) → n ≤ top_number size → contents full n ≡ Some (page n)
   unfolding full all_blocks
   full-contents n h =
       let range = numbers_from 0 (capacity size) in
       compacted-contents base base-sound all_blocks all-writable n
-      ∙ ap (Option.map payload) (last-map (λ i. new_block i (page i)) (has_number n) range
-      ∙ ap (Option.map (λ i. new_block i (page i)))
+      ∙ ap (option_map payload) (last-map (λ i. new_block i (page i)) (has_number n) range
+      ∙ ap (option_map (λ i. new_block i (page i)))
       (last-all (λ i. has_number n (new_block i (page i))) (λ i. eqb i n) range
       (all-range (λ i. has_number n (new_block i (page i)) ≡ eqb i n) 0 (capacity size) (λ i lo hi. rw (new-number i (page i) (l i))))
       ∙ range_last n 0 (capacity size) (omega arith) (omega (arith, h, (measures-of size legal).top_number_lem))))
-      ∙ ap (λ (p : List ℕ). some p) (new-payload n (page n) (l n))
+      ∙ ap (λ (p : List ℕ). Some p) (new-payload n (page n) (l n))
 
   top-allocated : allocated full (capacity size) ≡ true
   unfolding full
@@ -248,7 +247,7 @@ unfolding made-steps
 made-chain image [] = tt
 made-chain image (c ∷ calls) = (record { answer_is = refl; image_is = refl }, made-chain (after image c) calls)
 
-idle : (image : List ℕ) (partition n : ℕ) (page : List ℕ) → refusal image partition ≡ 0 → contents image n ≡ some page → SaveDone image n page image
+idle : (image : List ℕ) (partition n : ℕ) (page : List ℕ) → refusal image partition ≡ 0 → contents image n ≡ Some page → SaveDone image n page image
 unfolding reply_to
 idle image partition n page r e =
     let c = on_page (save partition n page page) in
@@ -257,7 +256,7 @@ idle image partition n page r e =
     let saves : SaveDone image n page (after image c) = (partition, page, reply_to image c, record { answer_is = refl; image_is = refl }, done) in
     subst (λ (i : List ℕ). SaveDone image n page i) (demand2.save_idles image n page (after image c) saves e).0 saves
   where
-    is-page : (p : List ℕ) → length p ≡ 60 → expected_page p ≡ some p
+    is-page : (p : List ℕ) → length p ≡ 60 → expected_page p ≡ Some p
     is-page [] l = absurd (omega (arith, l))
     is-page (x ∷ xs) l = refl
 

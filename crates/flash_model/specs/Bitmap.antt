@@ -2,7 +2,7 @@
 -- numbered from 1. The bits past the last user block are ignored, since nobody asks for them.
 -- Assumes nothing.
 use Rattle.std.specs.Prelude.{ℕ, zero, suc, ◌-◌, ◌/◌, ◌%◌, ◌^◌, Bool, true, false, not, cond, List, [], ◌∷◌, map, eqb, get_or, set}
-use Rattle.std.proofs.Math.Option.{Option}
+use Rattle.std.specs.Prelude.{Option}
 use Rattle.words.specs.Lists.{any_of, numbers_from}
 use Rattle.words.specs.Search.{lowest}
 

@@ -3,7 +3,7 @@
 -- document 02, order 4: "Order: 1 to 5, 8, 41, 42, 43, then 7, 9 or 40."
 -- Assumes nothing.
 use Rattle.std.specs.Prelude.{ℕ, ◌≡◌, Bool, not, cond, ◌||◌, List, [], ◌∷◌, ◌++◌, eqb, length}
-use Rattle.std.proofs.Math.Option.{Option, none, some}
+use Rattle.std.specs.Prelude.{Option, None, Some}
 use Rattle.words.specs.Lists.{is_some, to_list}
 use Rattle.words.specs.Words.{same_bytes}
 use Rattle.flash_model.specs.Measures.{capacity, legal_number}
@@ -54,8 +54,8 @@ code_answer n lent = record { code = n; values = []; buffers = lent }
 
 -- 9: "contents differ from last-seen, or one of them is nothing and the other isn't"
 abbrev pub differs : Option (List ℕ) → List ℕ → Bool
-differs none expected = not (eqb (length expected) 0)
-differs (some page) expected = not (same_bytes page expected)
+differs None expected = not (eqb (length expected) 0)
+differs (Some page) expected = not (same_bytes page expected)
 
 unfoldable pub changed_since : List ℕ → ℕ → List ℕ → Bool
 changed_since image n expected = differs (contents image n) expected
@@ -190,8 +190,8 @@ after_pages image (p ∷ ps) = after_pages (after_page image p) ps
 
 -- The saves of an accepted claim: "the two in order at the lowest slot not valid", "with what stands there as last seen".
 abbrev pub saves_at : List ℕ → ℕ → List ℕ → List ℕ → Option ℕ → List PageCall
-saves_at image partition one other none = []
-saves_at image partition one other (some slot) =
+saves_at image partition one other None = []
+saves_at image partition one other (Some slot) =
     save partition (slot_number slot 0) (page_bytes (contents image (slot_number slot 0))) one
     ∷ save partition (slot_number slot 1) (page_bytes (contents image (slot_number slot 1))) other ∷ []
 

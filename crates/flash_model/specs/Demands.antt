@@ -1,7 +1,7 @@
 -- The three demands (document 00) as facts about the definitions, in plain logic.
 -- Assumes nothing.
 use Rattle.std.specs.Prelude.{ℕ, suc, ◌+◌, ◌*◌, ◌≤◌, ◌<◌, ◌≡◌, Bool, true, false, List, [], ◌∷◌, ◌++◌, map, ◌↔◌, ◌≢◌, ◌⊎◌, length, get_or, take, replicate}
-use Rattle.std.proofs.Math.Option.{none, some}
+use Rattle.std.specs.Prelude.{None, Some}
 use Rattle.flash_model.specs.Measures.{legal_size, bitmap_blocks, first_bitmap, capacity, top_number}
 use Rattle.flash_model.specs.Bitmap.{bit_byte, bit_weight, bit_of}
 use Rattle.flash_model.specs.UserBlock.{new_block}
@@ -59,7 +59,7 @@ pub record Keeps (image image' : List ℕ) : Type 0 where
 
 -- The number's page is the new one, every other number's as before.
 pub record SavedAs (image : List ℕ) (n : ℕ) (page image' : List ℕ) : Type 0 where
-  pub saved_page : contents image' n ≡ some page
+  pub saved_page : contents image' n ≡ Some page
   pub other_pages : (m : ℕ) → m ≢ n → contents image' m ≡ contents image m
   pub keeps_rest : Keeps image image'
 
@@ -80,8 +80,8 @@ pub record LowestFreeBlank (image : List ℕ) (k : ℕ) : Type 0 where
 -- two of them hold at once.
 abbrev pub SaveCases : List ℕ → ℕ → List ℕ → Type 0
 SaveCases image n page =
-    (contents image n ≡ some page)
-    ⊎ ((contents image n ≢ some page) × (((k : ℕ) × LowestFreeBlank image k) ⊎ ((k : ℕ) → LowestFreeBlank image k → ⊥)))
+    (contents image n ≡ Some page)
+    ⊎ ((contents image n ≢ Some page) × (((k : ℕ) × LowestFreeBlank image k) ⊎ ((k : ℕ) → LowestFreeBlank image k → ⊥)))
 
 -- Document 01's short way, at block k: "No other byte changes and no bit goes from 0 to 1."
 pub record AppendedAt (image : List ℕ) (k : ℕ) (new image' : List ℕ) : Type 0 where
@@ -119,9 +119,9 @@ pub record ReadCodes (image : List ℕ) (n : ℕ) (buffer : List ℕ) (code : �
   -- "page buffer not 60 bytes"
   pub row_8 : (code ≡ 8) ↔ ((n ≤ top_number (length image)) × (length buffer ≢ 60))
   -- "read or next-live: nothing there"
-  pub row_7 : (code ≡ 7) ↔ ((n ≤ top_number (length image)) × (length buffer ≡ 60) × (contents image n ≡ none))
+  pub row_7 : (code ≡ 7) ↔ ((n ≤ top_number (length image)) × (length buffer ≡ 60) × (contents image n ≡ None))
   -- "done"
-  pub row_0 : (code ≡ 0) ↔ ((n ≤ top_number (length image)) × (length buffer ≡ 60) × (contents image n ≢ none))
+  pub row_0 : (code ≡ 0) ↔ ((n ≤ top_number (length image)) × (length buffer ≡ 60) × (contents image n ≢ None))
 
 -- The buffers of a save.
 abbrev pub LengthsRefused : List ℕ → List ℕ → Type 0
@@ -223,27 +223,27 @@ pub record Demand2 : Type 0 where
       → Answered image (on_whole (next_live partition start)) image' answer → answer.code ≡ 0
       → (n : ℕ) × (answer.values ≡ n ∷ []) × NextLiveIs image start n
   pub next_live_none : (image : List ℕ) (start : ℕ) → Sound image → code_of image (on_whole (next_live (header_number image) start)) ≢ 0
-      → (code_of image (on_whole (next_live (header_number image) start)) ≡ 7) × ((n : ℕ) → start ≤ n → contents image n ≡ none)
+      → (code_of image (on_whole (next_live (header_number image) start)) ≡ 7) × ((n : ℕ) → start ≤ n → contents image n ≡ None)
   -- a read that is accepted leaves the contents in its buffer
   pub read_gives : (image : List ℕ) (partition n : ℕ) (buffer image' : List ℕ) (answer : Reply)
       → Answered image (on_page (read partition n buffer)) image' answer → answer.code ≡ 0
-      → (page : List ℕ) × (answer.buffers ≡ page ∷ []) × (contents image n ≡ some page) × (length page ≡ 60)
+      → (page : List ℕ) × (answer.buffers ≡ page ∷ []) × (contents image n ≡ Some page) × (length page ≡ 60)
   pub save_keeps : (image : List ℕ) (n : ℕ) (page image' : List ℕ) → SaveDone image n page image' → SavedAs image n page image'
   -- "A save whose new bytes equal the contents now answers 0 and changes no byte" (document 02, order 5): an idle save
   pub save_idles : (image : List ℕ) (n : ℕ) (page image' : List ℕ)
-      → SaveDone image n page image' → contents image n ≡ some page → (image' ≡ image) × (contents image' n ≡ some page)
+      → SaveDone image n page image' → contents image n ≡ Some page → (image' ≡ image) × (contents image' n ≡ Some page)
   -- any other is an append exactly where that can be had, and a compaction otherwise. "A save's answer doesn't tell which way was
   -- taken ..; the report does": used is as it was after an idle save, one more after an append, and equals live after a compaction.
   -- (Where used equalled live before, the counts after a compaction can be those after one of the others.)
   pub save_appends : (image : List ℕ) (n : ℕ) (page image' : List ℕ) (k : ℕ)
-      → SaveDone image n page image' → contents image n ≢ some page → LowestFreeBlank image k
+      → SaveDone image n page image' → contents image n ≢ Some page → LowestFreeBlank image k
       → AppendedAt image k (new_block n page) image' × (used image' ≡ suc (used image))
   pub save_compacts : (image : List ℕ) (n : ℕ) (page image' : List ℕ)
-      → SaveDone image n page image' → contents image n ≢ some page → ((k : ℕ) → LowestFreeBlank image k → ⊥)
+      → SaveDone image n page image' → contents image n ≢ Some page → ((k : ℕ) → LowestFreeBlank image k → ⊥)
       → CompactedAs image (other_holders image n ++ new_block n page ∷ []) image' × (used image' ≡ live image')
   -- "or where the block went; the report does": it is the last used one
   pub save_place : (image : List ℕ) (n : ℕ) (page image' : List ℕ)
-      → SaveDone image n page image' → contents image n ≢ some page → block_at image' (used image') ≡ new_block n page
+      → SaveDone image n page image' → contents image n ≢ Some page → block_at image' (used image') ≡ new_block n page
   -- there is no fourth case
   pub save_cases : (image : List ℕ) (n : ℕ) (page : List ℕ) → SaveCases image n page
   -- "In an otherwise proper save, it is refused as changed exactly when that is no longer so", and else accepted
@@ -296,7 +296,7 @@ pub record Demand3 : Type 0 where
   pub never_refused : (image : List ℕ) (n : ℕ) (expected page image' : List ℕ) (answer : Reply)
       → Sound image → n ≤ top_number (length image) → length page ≡ 60 → expected_page expected ≡ contents image n
       → Answered image (on_page (save (header_number image) n expected page)) image' answer
-      → (answer.code ≡ 0) × (contents image' n ≡ some page)
+      → (answer.code ≡ 0) × (contents image' n ≡ Some page)
 
 -- ---- these are about something
 
@@ -316,13 +316,13 @@ pub record NotVacuous : Type 0 where
   -- with nothing live, where a save appends, and with every number live, with a page of its own, where a save of that page is
   -- idle and one of another page compacts
   pub empty : (size partition : ℕ) → legal_size size ≡ true → partition < 256
-      → (image : List ℕ) × Witness size partition image × (used image ≡ 0) × ((n : ℕ) → contents image n ≡ none) × LowestFreeBlank image 1
+      → (image : List ℕ) × Witness size partition image × (used image ≡ 0) × ((n : ℕ) → contents image n ≡ None) × LowestFreeBlank image 1
   pub full : (size partition : ℕ) (page : ℕ → List ℕ) → legal_size size ≡ true → partition < 256
       → ((n : ℕ) → Bytes (page n)) → ((n : ℕ) → length (page n) ≡ 60)
       → (image : List ℕ) × Witness size partition image × (used image ≡ capacity size)
-      × ((n : ℕ) → n ≤ top_number size → contents image n ≡ some (page n))
+      × ((n : ℕ) → n ≤ top_number size → contents image n ≡ Some (page n))
   -- wherever a page is, there is an idle save
-  pub idle : (image : List ℕ) (partition n : ℕ) (page : List ℕ) → refusal image partition ≡ 0 → contents image n ≡ some page
+  pub idle : (image : List ℕ) (partition n : ℕ) (page : List ℕ) → refusal image partition ≡ 0 → contents image n ≡ Some page
       → SaveDone image n page image
   -- any list of calls can be made, so every chain theorem has its chains
   pub chains : (image : List ℕ) (calls : List Call) → (steps : List Step) × (map (λ s. s.made) steps ≡ calls) × Chain image steps

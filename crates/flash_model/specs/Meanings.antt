@@ -1,7 +1,7 @@
 -- What the definitions of a partition mean, in plain logic: document 01, "Partition measures", and refusals 1 to 5.
 -- Assumes nothing.
 use Rattle.std.specs.Prelude.{ℕ, ◌≤◌, ◌<◌, ◌≡◌, true, false, List, [], ◌∷◌, map, ◌↔◌, ◌≢◌, eqb, length, take}
-use Rattle.std.proofs.Math.Option.{none, some}
+use Rattle.std.specs.Prelude.{None, Some}
 use Rattle.words.specs.Lists.{any_of}
 use Rattle.words.specs.Words.{word, same_bytes}
 use Rattle.checksum.specs.Crc.{checksum_of}
@@ -37,8 +37,8 @@ pub record HighestHolds (image : List ℕ) (n : ℕ) (page : List ℕ) : Type 0 
 -- The number is live, not below the start, and none between is.
 pub record NextLiveIs (image : List ℕ) (start n : ℕ) : Type 0 where
   pub not_below : start ≤ n
-  pub is_live_lem : contents image n ≢ none
-  pub none_between : (m : ℕ) → start ≤ m → m < n → contents image m ≡ none
+  pub is_live_lem : contents image n ≢ None
+  pub none_between : (m : ℕ) → start ≤ m → m < n → contents image m ≡ None
 
 -- An allocated user block follows a free one.
 pub record Gap (image : List ℕ) : Type 0 where
@@ -76,12 +76,12 @@ pub record Meanings : Type 0 where
   pub refusals_mean : (image : List ℕ) (partition : ℕ) → RefusalsMean image partition
   pub sound_means : (image : List ℕ) → Sound image ↔ SoundMeans image
   pub refused_not : (image : List ℕ) (partition : ℕ) → (refusal image partition ≡ 0) ↔ (Sound image × (header_number image ≡ partition))
-  pub contents_are : (image : List ℕ) (n : ℕ) (page : List ℕ) → (contents image n ≡ some page) ↔ HighestHolds image n page
-  pub page_length : (image : List ℕ) (n : ℕ) (page : List ℕ) → Sound image → contents image n ≡ some page → length page ≡ 60
+  pub contents_are : (image : List ℕ) (n : ℕ) (page : List ℕ) → (contents image n ≡ Some page) ↔ HighestHolds image n page
+  pub page_length : (image : List ℕ) (n : ℕ) (page : List ℕ) → Sound image → contents image n ≡ Some page → length page ≡ 60
   pub right_checksum_lem : (block : List ℕ) → (right_checksum block ≡ true) ↔ (word block 62 ≡ checksum_of (take 62 block))
   pub used_most : (image : List ℕ) → used image ≤ capacity (length image)
   pub used_are : (image : List ℕ) → Sound image → (k : ℕ) → 1 ≤ k → k ≤ capacity (length image) → (allocated image k ≡ true) ↔ (k ≤ used image)
   pub holders_are : (image : List ℕ) → (places : List ℕ) × HoldersAt image places
   pub live_are : (image : List ℕ) → Sound image → live image ≡ length (holders image)
-  pub next_live_lem : (image : List ℕ) (start n : ℕ) → Sound image → (lowest_live image start ≡ some n) ↔ NextLiveIs image start n
+  pub next_live_lem : (image : List ℕ) (start n : ℕ) → Sound image → (lowest_live image start ≡ Some n) ↔ NextLiveIs image start n
   pub same_bytes_lem : (a b : List ℕ) → (same_bytes a b ≡ true) ↔ (a ≡ b)

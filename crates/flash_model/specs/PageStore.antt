@@ -8,10 +8,10 @@ use Rattle.std.proofs.Math.Logic.{ite}
 use Rattle.std.proofs.Math.Logic.Dec
 use mathlib.Core.HLevel.{Discrete}
 use mathlib.Core.List.{List, [], ◌∷◌, ◌++◌, List-discrete}
-use Rattle.std.proofs.Math.Option.{Option, none, some}
-use Rattle.std.proofs.Math.Option as option
+use Rattle.std.specs.Prelude.{Option, None, Some}
 use Rattle.std.proofs.Math.Decide.{ℕ_discrete, dec_lt}
 use Rattle.words.specs.Words.{word}
+use Rattle.words.proofs.OptionLaws.{same_option}
 use Rattle.checksum.specs.Crc.{checksum_of}
 use Rattle.flash_model.specs.Measures.{top_number}
 use Rattle.flash_model.specs.Partition.{contents}
@@ -25,7 +25,7 @@ PageMap = ℕ → Option (List ℕ)
 
 -- ".. at first the contents in the starting image": those of the owned numbers, and nothing else.
 unfoldable pub owned_pages : (ℕ → Bool) → List ℕ → PageMap
-owned_pages owned image n = cond (owned n) (contents image n) none
+owned_pages owned image n = cond (owned n) (contents image n) None
 
 -- The refusal is given where the fact holds; else the later ones decide.
 abbrev pub given : {P : Type 0} → Dec P → ℕ → ℕ → ℕ
@@ -33,17 +33,17 @@ given fact refused later = ite fact refused later
 
 -- The expected page: "last-seen (0 bytes being nothing)".
 abbrev pub expected_page : List ℕ → Option (List ℕ)
-expected_page [] = none
-expected_page (x ∷ xs) = some (x ∷ xs)
+expected_page [] = None
+expected_page (x ∷ xs) = Some (x ∷ xs)
 
 unfoldable pub same_page : Discrete (Option (List ℕ))
-same_page = option.discrete (List-discrete ℕ_discrete)
+same_page = same_option (List-discrete ℕ_discrete)
 
 -- The bytes of a header's two pages, none where one of the pages isn't kept.
 abbrev pub both_pages : Option (List ℕ) → Option (List ℕ) → List ℕ
-both_pages none second = []
-both_pages (some a) none = []
-both_pages (some a) (some b) = a ++ b
+both_pages None second = []
+both_pages (Some a) None = []
+both_pages (Some a) (Some b) = a ++ b
 
 -- "it starts 01 FF, and the checksum at byte 0x70, over bytes 0x02 to 0x6F by the flash routine, is right"
 abbrev pub RightBytes : List ℕ → Type 0
@@ -79,7 +79,7 @@ store_code size header pages (read partition n buffer) =
     given (Dec.not (ℕ_discrete partition header)) 3
     (given (dec_lt (top_number size) n) 6
     (given (Dec.not (ℕ_discrete (length buffer) 60)) 8
-    (given (same_page (pages n) none) 7 0)))
+    (given (same_page (pages n) None) 7 0)))
 store_code size header pages (save partition n expected page) =
     given (Dec.not (ℕ_discrete partition header)) 3
     (given (dec_lt (top_number size) n) 6
@@ -90,7 +90,7 @@ store_code size header pages (slot_read partition slot block buffer) =
     slot_front_given size header partition
     (given (Dec.not (ℕ_discrete (length buffer) 60)) 8
     (slot_given pages slot block
-    (given (same_page (pages (data_number slot block)) none) 7 0)))
+    (given (same_page (pages (data_number slot block)) None) 7 0)))
 store_code size header pages (slot_save partition slot block expected page) =
     slot_front_given size header partition
     (given (Dec.not (ℕ_discrete (length page) 60)) 8
@@ -100,8 +100,8 @@ store_code size header pages (slot_save partition slot block expected page) =
 
 -- ".. else 0, and the buffer gets the page kept."
 abbrev pub read_buffer : ℕ → Option (List ℕ) → List ℕ → List ℕ
-read_buffer zero none buffer = buffer
-read_buffer zero (some page) buffer = page
+read_buffer zero None buffer = buffer
+read_buffer zero (Some page) buffer = page
 read_buffer (suc refused) page buffer = buffer
 
 abbrev pub store_buffers : ℕ → PageMap → PageCall → List (List ℕ)
@@ -120,10 +120,10 @@ store_reply size header pages p = record {
 -- ".. else 0, and the new page is kept." "No read changes the book .. and a refusal neither."
 abbrev pub pages_after : ℕ → PageMap → PageCall → PageMap
 pages_after answered pages (read partition n buffer) = pages
-pages_after zero pages (save partition n expected page) = λ m. ite (ℕ_discrete m n) (some page) (pages m)
+pages_after zero pages (save partition n expected page) = λ m. ite (ℕ_discrete m n) (Some page) (pages m)
 pages_after (suc refused) pages (save partition n expected page) = pages
 pages_after answered pages (slot_read partition slot block buffer) = pages
-pages_after zero pages (slot_save partition slot block expected page) = λ m. ite (ℕ_discrete m (data_number slot block)) (some page) (pages m)
+pages_after zero pages (slot_save partition slot block expected page) = λ m. ite (ℕ_discrete m (data_number slot block)) (Some page) (pages m)
 pages_after (suc refused) pages (slot_save partition slot block expected page) = pages
 
 unfoldable pub store_after : ℕ → ℕ → PageMap → PageCall → PageMap

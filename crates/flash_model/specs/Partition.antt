@@ -2,7 +2,7 @@
 -- "Numbers the bench will see". An image is the list of its bytes.
 -- Assumes nothing.
 use Rattle.std.specs.Prelude.{ℕ, ◌*◌, ◌≡◌, Bool, not, cond, ◌&&◌, List, [], ◌∷◌, eqb, ltb, leb, length, get_or, take, drop}
-use Rattle.std.proofs.Math.Option.{Option, none, map}
+use Rattle.std.specs.Prelude.{Option, None, option_map}
 use Rattle.words.specs.Lists.{keep, is_some}
 use Rattle.words.specs.Search.{highest, lowest}
 use Rattle.words.specs.Words.{same_bytes}
@@ -79,11 +79,11 @@ holds image n k = allocated image k && copy_at image n k
 
 -- The highest such block. Blocks with "a number above M-2 count for nothing".
 unfoldable pub holder : List ℕ → ℕ → Option ℕ
-holder image n = cond (legal_number (length image) n) (highest (holds image n) (capacity (length image))) none
+holder image n = cond (legal_number (length image) n) (highest (holds image n) (capacity (length image))) None
 
 -- "The contents of a logical number are the payload of" that block, "or nothing".
 unfoldable pub contents : List ℕ → ℕ → Option (List ℕ)
-contents image n = map (λ k. payload (block_at image k)) (holder image n)
+contents image n = option_map (λ k. payload (block_at image k)) (holder image n)
 
 -- "Live is how many numbers have contents"
 unfoldable pub live : List ℕ → ℕ

@@ -1,7 +1,7 @@
 -- The slot calls of document 02, order 4, in plain logic: what their definitions mean, and demands 2 and 3 for them.
 -- Assumes nothing.
 use Rattle.std.specs.Prelude.{ℕ, ◌+◌, ◌*◌, ◌≤◌, ◌<◌, ◌≡◌, Bool, true, List, [], ◌∷◌, ◌++◌, ◌↔◌, ◌≢◌, ◌⊎◌, length, get_or, take, drop}
-use Rattle.std.proofs.Math.Option.{none, some}
+use Rattle.std.specs.Prelude.{None, Some}
 use Rattle.words.specs.Words.{word}
 use Rattle.checksum.specs.Crc.{checksum_of}
 use Rattle.flash_model.specs.Partition.{magic, header_number, refusal, Sound, contents}
@@ -23,8 +23,8 @@ MakesValid header = (get_or header 0 0 ≡ 0x01) × ((get_or header 1 0 ≡ 0xFF
 pub record HeaderIs (image : List ℕ) (slot : ℕ) (header : List ℕ) : Type 0 where
   pub one : List ℕ
   pub other : List ℕ
-  pub first_block_lem : contents image (24 + 4 * slot) ≡ some one
-  pub second_block : contents image (25 + 4 * slot) ≡ some other
+  pub first_block_lem : contents image (24 + 4 * slot) ≡ Some one
+  pub second_block : contents image (25 + 4 * slot) ≡ Some other
   pub header_is : header ≡ one ++ other
   pub makes_valid : MakesValid header
 
@@ -72,8 +72,8 @@ pub record SlotReadCodes (image : List ℕ) (slot block : ℕ) (buffer : List �
   pub row_8 : (code ≡ 8) ↔ (length buffer ≢ 60)
   pub row_42 : (code ≡ 42) ↔ ((length buffer ≡ 60) × (IsSlot image slot → ⊥))
   pub row_43 : (code ≡ 43) ↔ ((length buffer ≡ 60) × (IsSlot image slot × (1 < block)))
-  pub row_7 : (code ≡ 7) ↔ ((length buffer ≡ 60) × (IsSlot image slot × ((block ≤ 1) × (contents image (26 + 4 * slot + block) ≡ none))))
-  pub row_0 : (code ≡ 0) ↔ ((length buffer ≡ 60) × (IsSlot image slot × ((block ≤ 1) × (contents image (26 + 4 * slot + block) ≢ none))))
+  pub row_7 : (code ≡ 7) ↔ ((length buffer ≡ 60) × (IsSlot image slot × ((block ≤ 1) × (contents image (26 + 4 * slot + block) ≡ None))))
+  pub row_0 : (code ≡ 0) ↔ ((length buffer ≡ 60) × (IsSlot image slot × ((block ≤ 1) × (contents image (26 + 4 * slot + block) ≢ None))))
 
 pub record SlotSaveCodes (image : List ℕ) (slot block : ℕ) (expected page : List ℕ) (code : ℕ) : Type 0 where
   pub row_8 : (code ≡ 8) ↔ LengthsRefused expected page
@@ -179,7 +179,7 @@ pub record SlotRules : Type 0 where
       → (code_of image (on_whole (slot_list partition start)) ≡ 7) × ((slot : ℕ) → start ≤ slot → IsSlot image slot → ⊥)
   pub read_gives : (image : List ℕ) (partition slot block : ℕ) (buffer image' : List ℕ) (answer : Reply)
       → Answered image (on_page (slot_read partition slot block buffer)) image' answer → answer.code ≡ 0
-      → (page : List ℕ) × (answer.buffers ≡ page ∷ []) × (contents image (26 + 4 * slot + block) ≡ some page)
+      → (page : List ℕ) × (answer.buffers ≡ page ∷ []) × (contents image (26 + 4 * slot + block) ≡ Some page)
   -- an accepted slot save is a save of its data block: all of demand 2 is said of that
   pub save_is_save : (image : List ℕ) (partition slot block : ℕ) (expected page image' : List ℕ) (answer : Reply)
       → Answered image (on_page (slot_save partition slot block expected page)) image' answer → answer.code ≡ 0
@@ -205,4 +205,4 @@ pub record SlotRules : Type 0 where
   pub never_refused : (image : List ℕ) (slot block : ℕ) (expected page image' : List ℕ) (answer : Reply)
       → SlotImage image → IsSlot image slot → block ≤ 1 → length page ≡ 60 → expected_page expected ≡ contents image (26 + 4 * slot + block)
       → Answered image (on_page (slot_save 3 slot block expected page)) image' answer
-      → (answer.code ≡ 0) × (contents image' (26 + 4 * slot + block) ≡ some page)
+      → (answer.code ≡ 0) × (contents image' (26 + 4 * slot + block) ≡ Some page)

@@ -1,7 +1,7 @@
 -- Worked examples of slots: their numbers, a header, and which slot calls are on owned numbers. They hold by computation.
 -- Assumes nothing.
 use Rattle.std.specs.Prelude.{ℕ, ◌≡◌, refl, Bool, true, false, ◌||◌, List, [], ◌∷◌, ◌++◌, map, eqb, replicate, set}
-use Rattle.std.proofs.Math.Option.{some}
+use Rattle.std.specs.Prelude.{Some}
 use Rattle.words.specs.Words.{word}
 use Rattle.checksum.specs.Crc.{shift, shifts, take_byte, crc_from, checksum_of}
 use Rattle.flash_model.specs.Measures.{blocks, bitmap_blocks, first_bitmap, capacity, top_number, legal_number}
@@ -88,7 +88,7 @@ which-are-saves = refl
 -- ---- claims
 
 -- A claim that writes slot 5 of an image where nothing stands saves to 44 and 45; a refused one counts as nothing.
-pub claim-saves : saves_at [] 3 (1 ∷ []) (2 ∷ []) (some 5) ≡ save 3 44 [] (1 ∷ []) ∷ save 3 45 [] (2 ∷ []) ∷ []
+pub claim-saves : saves_at [] 3 (1 ∷ []) (2 ∷ []) (Some 5) ≡ save 3 44 [] (1 ∷ []) ∷ save 3 45 [] (2 ∷ []) ∷ []
 unfolding slot_number contents holder legal_number top_number first_bitmap blocks bitmap_blocks capacity
 claim-saves = refl
 

@@ -2,7 +2,7 @@
 -- on which a claim writes two blocks or one, is refused 40, or finds its own.
 -- Assumes nothing.
 use Rattle.std.specs.Prelude.{ℕ, ◌≤◌, ◌≡◌, List, ◌∷◌, ◌++◌, ◌≢◌, length, take, drop, replicate}
-use Rattle.std.proofs.Math.Option.{none}
+use Rattle.std.specs.Prelude.{None}
 use Rattle.flash_model.specs.Partition.{contents}
 use Rattle.flash_model.specs.Calls.{code_of, after}
 use Rattle.flash_model.specs.Calls.{WholeCall.slot_find, CompoundCall.claim, Call.on_whole, Call.on_pages}
@@ -21,7 +21,7 @@ pub record HeaderFor (product one other : List ℕ) : Type 0 where
 -- No number has contents, so no slot is valid. A claim writes slot 0, whose data blocks are missing then.
 pub record BlankPartition (image one other : List ℕ) : Type 0 where
   pub is_partition : Witness 32768 3 image
-  pub none_live : (n : ℕ) → contents image n ≡ none
+  pub none_live : (n : ℕ) → contents image n ≡ None
   pub none_valid : (k : ℕ) → IsSlot image k → ⊥
   pub is_claimed : code_of image (on_pages (claim 3 one other)) ≡ 0
   pub is_written : ClaimWritten image one other (after image (on_pages (claim 3 one other))) 0

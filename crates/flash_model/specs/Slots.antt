@@ -1,7 +1,7 @@
 -- Game slots of partition 3: document 02, order 4, with the layout of document 001, "Partition 3".
 -- Assumes nothing.
 use Rattle.std.specs.Prelude.{ℕ, ◌+◌, ◌*◌, Bool, false, not, cond, ◌&&◌, ◌||◌, List, [], ◌++◌, eqb, ltb, leb, length, get_or, take, drop}
-use Rattle.std.proofs.Math.Option.{Option, none, some}
+use Rattle.std.specs.Prelude.{Option, None, Some}
 use Rattle.words.specs.Lists.{is_some}
 use Rattle.words.specs.Search.{lowest}
 use Rattle.words.specs.Words.{word, same_bytes}
@@ -33,9 +33,9 @@ slot_partition = 3
 
 -- The header in two blocks, one behind the other, where both "exist".
 abbrev pub joined : Option (List ℕ) → Option (List ℕ) → Option (List ℕ)
-joined none second = none
-joined (some a) none = none
-joined (some a) (some b) = some (a ++ b)
+joined None second = None
+joined (Some a) None = None
+joined (Some a) (Some b) = Some (a ++ b)
 
 unfoldable pub slot_header : List ℕ → ℕ → Option (List ℕ)
 slot_header image slot = joined (contents image (slot_number slot 0)) (contents image (slot_number slot 1))
@@ -52,16 +52,16 @@ product_of header = take 10 (drop 0x02 header)
 -- ---- slots
 
 abbrev pub is_right : Option (List ℕ) → Bool
-is_right none = false
-is_right (some header) = right_header header
+is_right None = false
+is_right (Some header) = right_header header
 
 -- "A slot is valid when" both blocks exist and make a right header.
 unfoldable pub valid_slot : List ℕ → ℕ → Bool
 valid_slot image slot = is_right (slot_header image slot)
 
 abbrev pub has_product : List ℕ → Option (List ℕ) → Bool
-has_product product none = false
-has_product product (some header) = right_header header && same_bytes (product_of header) product
+has_product product None = false
+has_product product (Some header) = right_header header && same_bytes (product_of header) product
 
 -- "Find by product number .. gives the lowest valid slot with it".
 unfoldable pub product_slot : List ℕ → List ℕ → Option ℕ
@@ -78,8 +78,8 @@ lowest_valid image start = lowest (λ slot. leb start slot && valid_slot image s
 -- ---- claims
 
 abbrev pub or_else : Option ℕ → Option ℕ → Option ℕ
-or_else none other = other
-or_else (some slot) other = some slot
+or_else None other = other
+or_else (Some slot) other = Some slot
 
 -- The slot that a claim with this header gives: "the slot find would give .. else .. the lowest slot not valid".
 unfoldable pub claimed_slot : List ℕ → List ℕ → Option ℕ
@@ -87,12 +87,12 @@ claimed_slot image header = or_else (product_slot image (product_of header)) (fr
 
 -- The slot that it writes: none where find would give one.
 unfoldable pub written_slot : List ℕ → List ℕ → Option ℕ
-written_slot image header = cond (is_some (product_slot image (product_of header))) none (free_slot image)
+written_slot image header = cond (is_some (product_slot image (product_of header))) None (free_slot image)
 
 -- "what stands there", as an expected page.
 abbrev pub page_bytes : Option (List ℕ) → List ℕ
-page_bytes none = []
-page_bytes (some page) = page
+page_bytes None = []
+page_bytes (Some page) = page
 
 -- ---- refusals
 

@@ -3,7 +3,7 @@ use Prim.Native.Nat.{ℕ, suc, ◌-◌, ◌≤◌}
 use mathlib.Core.Path.{◌≡◌, sym, ap, ◌∙◌}
 use mathlib.Core.Bool.{Bool, true, false}
 use mathlib.Core.List.{List}
-use mathlib.Core.Option.{none, some, map}
+use Rattle.std.specs.Prelude.{None, Some, option_map}
 use native.Mathlib.Omega.{arith}
 use lib.ListN.{length, take, drop}
 use borrow.Author.Tests.{ne_eqb}
@@ -21,13 +21,13 @@ use Rattle.flash_pages.specs.Rows.{read_buffer}
 
 -- ---- a number's contents
 
-pub contents-at : (image : List ℕ) (n k : ℕ) → as_found (holder image n) ≡ Hit k → contents image n ≡ some (payload (block_at image k))
+pub contents-at : (image : List ℕ) (n k : ℕ) → as_found (holder image n) ≡ Hit k → contents image n ≡ Some (payload (block_at image k))
 unfolding contents
-contents-at image n k e = ap (map (λ j. payload (block_at image j))) (found-hit (holder image n) k e)
+contents-at image n k e = ap (option_map (λ j. payload (block_at image j))) (found-hit (holder image n) k e)
 
-pub contents-none : (image : List ℕ) (n : ℕ) → as_found (holder image n) ≡ Nothing → contents image n ≡ none
+pub contents-none : (image : List ℕ) (n : ℕ) → as_found (holder image n) ≡ Nothing → contents image n ≡ None
 unfolding contents
-contents-none image n e = ap (map (λ j. payload (block_at image j))) (found_nothing (holder image n) e)
+contents-none image n e = ap (option_map (λ j. payload (block_at image j))) (found_nothing (holder image n) e)
 
 pub found-high : {image : List ℕ} {log : OpenedLog} → Usable image log → (n k : ℕ) → as_found (holder image n) ≡ Hit k → k ≤ capacity log.m.size
 found-high {image} u n k e =
@@ -62,11 +62,11 @@ module _ {image : List ℕ} {log : OpenedLog} (u : Usable image log) (n : ℕ) (
     read-8 h = refused_as 7 (rw (here true legal, ne_eqb (length buffer) 60 h))
 
     module _ (l : length buffer ≡ 60) where
-      pub read-7 : contents image n ≡ none → ReadAs 7 buffer
+      pub read-7 : contents image n ≡ None → ReadAs 7 buffer
       unfolding read_rows
       read-7 e = refused_as 6 (rw (here true legal, l, e))
 
-      done : (page : List ℕ) → contents image n ≡ some page → ReadAs 0 page
+      done : (page : List ℕ) → contents image n ≡ Some page → ReadAs 0 page
       unfolding read_rows read_buffer
       done page e = (rw (here true legal, l, e), rw (here true legal, l, e))
 

@@ -3,7 +3,7 @@ use Prim.Native.Nat.{ℕ, suc, ◌≤◌, ◌<◌}
 use mathlib.Core.Path.{◌≡◌, refl, sym, ap, ◌∙◌}
 use mathlib.Core.Bool.{Bool, true, false, not, cond, ◌||◌, true≢false}
 use mathlib.Core.List.{List, [], ◌∷◌, ◌++◌}
-use mathlib.Core.Option.{Option, none, some}
+use Rattle.std.specs.Prelude.{Option, None, Some}
 use native.Mathlib.Omega.{arith}
 use lib.Dec.{eqb}
 use lib.ListN.{length, replicate}
@@ -48,7 +48,7 @@ module _ (expected page : List ℕ) where
 -- ---- row 9
 
 module _ {image : List ℕ} {log : OpenedLog} (u : Usable image log) (n : ℕ) (expected : List ℕ) where
-  none-expected : length expected ≡ 0 → contents image n ≡ none → 0 ≡ row 9 (changed_since image n expected) 0
+  none-expected : length expected ≡ 0 → contents image n ≡ None → 0 ≡ row 9 (changed_since image n expected) 0
   unfolding changed_since
   none-expected e c = rw (c, e)
 
@@ -84,7 +84,7 @@ module _ {image : List ℕ} {log : OpenedLog} (u : Usable image log) where
   free-behind k n h =
       allocated-used image u.is_sound k (omega arith) (omega (arith, h, ap capacity u.has_size)) ∙ lt-leb k (used image) (omega (arith, n, u.used_is))
 
-  free-next : log.used < capacity log.m.size → lowest_free image ≡ some (suc log.used)
+  free-next : log.used < capacity log.m.size → lowest_free image ≡ Some (suc log.used)
   unfolding lowest_free lowest_free_in allocated
   free-next h =
       let cap : capacity (length image) ≡ capacity log.m.size = ap capacity u.has_size in
@@ -95,7 +95,7 @@ module _ {image : List ℕ} {log : OpenedLog} (u : Usable image log) where
         none_below = λ j a b. ap not (allocated-used image u.is_sound j a (omega (arith, b, h, cap)) ∙ le-leb j (used image) (omega (arith, b, u.used_is)));
       })
 
-  free-none : capacity log.m.size ≤ log.used → lowest_free image ≡ none
+  free-none : capacity log.m.size ≤ log.used → lowest_free image ≡ None
   unfolding lowest_free lowest_free_in allocated
   free-none h =
       let cap : capacity (length image) ≡ capacity log.m.size = ap capacity u.has_size in
@@ -111,20 +111,20 @@ module _ {image : List ℕ} {log : OpenedLog} (u : Usable image log) where
   unfolding append_block
   append-blank-block h k n same block b e = e ∙ rw (b, n, free-next h) (go (same_bytes (block_at image (suc log.used)) (replicate 64 255)))
     where
-      go : (t : Bool) → t ≡ is_some (cond t (some (suc log.used)) none)
+      go : (t : Bool) → t ≡ is_some (cond t (Some (suc log.used)) None)
       go true = refl
       go false = refl
 
   -- where it can append, it does so behind the used blocks
-  pub appends : true ≡ can_append (append_block image) → (suc log.used ≤ capacity log.m.size) × (append_block image ≡ some (suc log.used))
+  pub appends : true ≡ can_append (append_block image) → (suc log.used ≤ capacity log.m.size) × (append_block image ≡ Some (suc log.used))
   appends e = go (append_block image) refl e
     where
-      go : (o : Option ℕ) → append_block image ≡ o → true ≡ can_append o → (suc log.used ≤ capacity log.m.size) × (append_block image ≡ some (suc log.used))
-      go none q f = absurd (true≢false f)
-      go (some k) q f =
+      go : (o : Option ℕ) → append_block image ≡ o → true ≡ can_append o → (suc log.used ≤ capacity log.m.size) × (append_block image ≡ Some (suc log.used))
+      go None q f = absurd (true≢false f)
+      go (Some k) q f =
           let b = append-blank image k q in
           let d : k ≡ suc log.used = blank-used image u.is_sound k b ∙ ap suc (sym u.used_is) in
-          (omega (arith, d, b.high, ap capacity u.has_size), q ∙ ap (λ (i : ℕ). some i) d)
+          (omega (arith, d, b.high, ap capacity u.has_size), q ∙ ap (λ (i : ℕ). Some i) d)
 
   pub written-append : true ≡ can_append (append_block image) → (n k : ℕ) (page : List ℕ) → k ≡ suc log.used → appended image k (new_block n page) ≡ page_written image n page
   unfolding page_written
@@ -135,16 +135,16 @@ module _ {image : List ℕ} {log : OpenedLog} (u : Usable image log) where
   written-compact e n page = go (append_block image) refl e
     where
       go : (o : Option ℕ) → append_block image ≡ o → false ≡ can_append o → compacted image (other_holders image n ++ new_block n page ∷ []) ≡ saved_at image n page (append_block image)
-      go none q f = rw q
-      go (some k) q f = absurd (true≢false (sym f))
+      go None q f = rw q
+      go (Some k) q f = absurd (true≢false (sym f))
 
 -- ---- the rows of a save
 
 -- where what is there is what is expected, it is the page exactly where that is expected
 expected-contents : (o : Option (List ℕ)) (expected page : List ℕ) → length page ≡ 60 → differs o expected ≡ false → is_contents o page ≡ same_bytes expected page
-expected-contents none expected page l d =
+expected-contents None expected page l d =
     sym (same-lengths expected page (λ e. omega (arith, e, l, eqb-true (length expected) 0 (not-false (eqb (length expected) 0) d))))
-expected-contents (some kept) expected page l d = ap (λ (p : List ℕ). same_bytes p page) (same-eq kept expected (not-false (same_bytes kept expected) d))
+expected-contents (Some kept) expected page l d = ap (λ (p : List ℕ). same_bytes p page) (same-eq kept expected (not-false (same_bytes kept expected) d))
 
 module _ {image : List ℕ} {log : OpenedLog} (u : Usable image log) (n : ℕ) (expected page : List ℕ) where
   -- what a save answers, and the image that it leaves

@@ -3,7 +3,7 @@ use Prim.Native.Nat.{ℕ, ◌-◌, ◌≤◌}
 use mathlib.Core.Path.{◌≡◌, refl, sym, ap, ◌∙◌}
 use mathlib.Core.Bool.{Bool, true, false, not, true≢false}
 use mathlib.Core.List.{List}
-use mathlib.Core.Option.{none, some}
+use Rattle.std.specs.Prelude.{None, Some}
 use native.Mathlib.Omega.{arith}
 use native.Mathlib.Decide.{dec_le}
 use lib.Dec.{leb}
@@ -61,14 +61,14 @@ module _ (image : List ℕ) (partition : ℕ) where
         rw (r, count) (ap (λ (i : ℕ). Ready (record { m = record { size = i }; used = n })) s)
 
     -- no block is free
-    pub open_full : lowest_free image ≡ none → (m : Measures) → m.size ≡ length image → (n : ℕ) → n ≡ capacity m.size → Ready (record { m = m; used = n }) ≡ opening_of image partition
+    pub open_full : lowest_free image ≡ None → (m : Measures) → m.size ≡ length image → (n : ℕ) → n ≡ capacity m.size → Ready (record { m = m; used = n }) ≡ opening_of image partition
     unfolding lowest_free lowest_free_in allocated cap
     open_full e m s n f =
         let all : n ≡ cap = f ∙ ap capacity s in
         whole m s n (omega arith) (λ k lo hi. not-false (allocated image k) (lowest-none (λ j. not (allocated image j)) 1 cap e k lo (omega arith)) ∙ sym (le-leb k n (omega arith)))
 
     -- block k is the lowest free one
-    module _ (k : ℕ) (e : lowest_free image ≡ some k) where
+    module _ (k : ℕ) (e : lowest_free image ≡ Some k) where
       free-first : IsLowest (λ j. not (allocated image j)) 1 cap k
       unfolding lowest_free lowest_free_in allocated cap
       free-first = lowest-some (λ j. not (allocated image j)) 1 cap k e
@@ -76,7 +76,7 @@ module _ (image : List ℕ) (partition : ℕ) where
       pub free-low : 1 ≤ k
       free-low = free-first.low
 
-      pub open-gap : (j : ℕ) → lowest_allocated image k ≡ some j → Refused 5 ≡ opening_of image partition
+      pub open-gap : (j : ℕ) → lowest_allocated image k ≡ Some j → Refused 5 ≡ opening_of image partition
       unfolding opening_of sequence_row lowest_allocated cap
       open-gap j f = go (out_of_sequence (bitmap_of image) (capacity (length image))) refl
         where
@@ -93,7 +93,7 @@ module _ (image : List ℕ) (partition : ℕ) where
               let below = passes-below (allocated image) cap (used image) (order-used image q) k j free-low (omega (arith, behind.low, other)) (omega (arith, behind.high, free-first.high, open-measured.first_bitmap_lem)) behind.passes in
               absurd (true≢false (sym below ∙ free))
 
-      pub open_free : lowest_allocated image k ≡ none → (m : Measures) → m.size ≡ length image → Ready (record { m = m; used = k - 1 }) ≡ opening_of image partition
+      pub open_free : lowest_allocated image k ≡ None → (m : Measures) → m.size ≡ length image → Ready (record { m = m; used = k - 1 }) ≡ opening_of image partition
       unfolding lowest_allocated cap
       open_free f m s = whole m s (k - 1) (omega (arith, free-first.high)) (λ j lo hi. go j lo hi (dec_le k j))
         where

@@ -2,7 +2,7 @@
 use Prim.Native.Nat.{ℕ}
 use mathlib.Core.Path.{◌≡◌, refl, sym, ap, subst, ◌∙◌}
 use mathlib.Core.List.{List, [], ◌∷◌}
-use mathlib.Core.Option.{Option, none, some}
+use Rattle.std.specs.Prelude.{Option, None, Some}
 use mathlib.Core.Logic.Dec
 use mathlib.Core.Logic.{if_pos, if_neg}
 use native.Mathlib.Omega.{arith}
@@ -40,22 +40,22 @@ module _ (image : List ℕ) (partition n : ℕ) (expected page back : List ℕ) 
   abbrev pages : PageMap
   pages = owned_pages (eqb n) image
 
-  store-reads : (kept : PageMap) → kept n ≡ some page → store_code (length image) (header_number image) kept reading ≡ 0
+  store-reads : (kept : PageMap) → kept n ≡ Some page → store_code (length image) (header_number image) kept reading ≡ 0
   unfolding store_code
   store-reads kept q =
       if_neg (Dec.not (ℕ_discrete (header_number image) (header_number image))) (λ d. d refl) 3 _
       ∙ if_neg (dec_lt (top_number (length image)) n) (λ h. omega (arith, h, own.is_legal)) 6 _
       ∙ if_neg (Dec.not (ℕ_discrete (length back) 60)) (λ d. d own.back_60) 8 _
-      ∙ if_neg (same_page (kept n) none) (λ h. absurd (different (sym q ∙ h))) 7 0
+      ∙ if_neg (same_page (kept n) None) (λ h. absurd (different (sym q ∙ h))) 7 0
     where
-      different : ◌≡◌ {A = Option (List ℕ)} (some page) none → ⊥
+      different : ◌≡◌ {A = Option (List ℕ)} (Some page) None → ⊥
       different e = let z : ◌≡◌ {A = ℕ} 0 1 = cc in omega (arith, z)
 
-  store_keeps : store_after (length image) (header_number image) pages saving n ≡ some page
+  store_keeps : store_after (length image) (header_number image) pages saving n ≡ Some page
   unfolding store_after
   store_keeps =
       rw (store-accepts image n expected page image (record { code = 0; values = []; buffers = [] }) own.is_sound own.is_legal own.page_60 own.up_to_date pages (own-page image n expected page image (record { code = 0; values = []; buffers = [] }) own.is_sound own.is_legal own.page_60 own.up_to_date))
-      (if_pos (ℕ_discrete n n) refl (some page) (pages n))
+      (if_pos (ℕ_discrete n n) refl (Some page) (pages n))
 
   read_keeps : (kept : PageMap) → store_after (length image) (header_number image) kept reading n ≡ kept n
   unfolding store_after

@@ -1,6 +1,6 @@
 -- A save that a writer makes knowing what is there, and what it finds after others have called. Assumes nothing.
 use Rattle.std.specs.Prelude.{ℕ, ◌≤◌, ◌≡◌, List, length}
-use Rattle.std.proofs.Math.Option.{some}
+use Rattle.std.specs.Prelude.{Some}
 use Rattle.flash_model.specs.Measures.{top_number}
 use Rattle.flash_model.specs.Partition.{header_number, Sound, contents}
 use Rattle.flash_model.specs.Calls.{after, Call.on_page, Call.on_whole, PageCall.save, WholeCall.erase}
@@ -19,7 +19,7 @@ pub record OwnSave (image : List ℕ) (partition n : ℕ) (expected page back : 
 pub record OwnPageBack (image : List ℕ) (n : ℕ) (page image' : List ℕ) (code : ℕ) (back' : List ℕ) : Type 0 where
   pub is_read : code ≡ 0
   pub is_own : back' ≡ page
-  pub is_there : contents image' n ≡ some page
+  pub is_there : contents image' n ≡ Some page
   pub ends_sound : Sound image'
   pub same_length : length image' ≡ length image
   pub same_number : header_number image' ≡ header_number image

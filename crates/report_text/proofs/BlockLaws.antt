@@ -3,7 +3,7 @@ use Prim.Native.Nat.{ℕ, zero, suc, ◌+◌, ◌-◌, ◌≤◌, ◌<◌}
 use mathlib.Core.Path.{◌≡◌, refl, sym, ap, ◌∙◌}
 use mathlib.Core.Bool.{Bool, true, false, ◌&&◌}
 use mathlib.Core.List.{List, [], ◌∷◌, ◌++◌, map}
-use mathlib.Core.Option.{Option, none, some}
+use Rattle.std.specs.Prelude.{Option, None, Some}
 use mathlib.Core.Logic.{◌≢◌}
 use native.Mathlib.Omega.{arith}
 use lib.ListN.{length, get_or}
@@ -45,9 +45,9 @@ keep-none p e (suc left) from g None-passes =
 
 -- ---- lines
 
-there-some : {A : Type 0} (o : Option A) → o ≢ none → is_some o ≡ true
-there-some none n = absurd (n refl)
-there-some (some x) n = refl
+there-some : {A : Type 0} (o : Option A) → o ≢ None → is_some o ≡ true
+there-some None n = absurd (n refl)
+there-some (Some x) n = refl
 
 abbrev is_live : List ℕ → ℕ → Bool
 is_live image n = is_some (contents image n)
@@ -62,13 +62,13 @@ lines-all image =
     ap (λ (k : ℕ). concat (map (line block_word) (keep (is_live image) (numbers_from 0 k)))) e
 
 module _ (image : List ℕ) (sound : Sound image) (from : ℕ) where
-  pub live-low : (n : ℕ) → lowest_live image from ≡ some n → (from ≤ n) × (n < capacity (length image))
+  pub live-low : (n : ℕ) → lowest_live image from ≡ Some n → (from ≤ n) × (n < capacity (length image))
   unfolding lowest_live
   live-low n e =
       let l = lowest-some (λ m. leb from m && is_live image m) 0 (capacity (length image)) n e in
       (((next_live_lem image from n sound).0 e).not_below, omega (arith, l.high))
 
-  pub lines_next : (n : ℕ) → lowest_live image from ≡ some n → lines_from image from ≡ line block_word n ++ lines_from image (n + 1)
+  pub lines_next : (n : ℕ) → lowest_live image from ≡ Some n → lines_from image from ≡ line block_word n ++ lines_from image (n + 1)
   unfolding lines_from
   lines_next n e =
       let l = (next_live_lem image from n sound).0 e in
@@ -78,7 +78,7 @@ module _ (image : List ℕ) (sound : Sound image) (from : ℕ) where
       (λ m a b. ap is_some (l.none_between m a b)) (there-some (contents image n) l.is_live_lem) in
       ap (λ (k : List ℕ). concat (map (line block_word) k)) kept
 
-  pub lines_end : lowest_live image from ≡ none → lines_from image from ≡ []
+  pub lines_end : lowest_live image from ≡ None → lines_from image from ≡ []
   unfolding lines_from
   lines_end e =
       ap (λ (k : List ℕ). concat (map (line block_word) k))
@@ -90,21 +90,21 @@ module _ (image : List ℕ) (partition from : ℕ) (r : LiveNumber) (a : Answere
   abbrev asked : Call
   asked = on_whole (next_live partition from)
 
-  pub answer-number : {n : ℕ} → r ≡ Hit n → lowest_live image from ≡ some n
+  pub answer-number : {n : ℕ} → r ≡ Hit n → lowest_live image from ≡ Some n
   answer-number {n} e =
       go (lowest_live image from) (ap (λ (x : LiveNumber). (next_answer x).values) (sym e) ∙ accepted-values image asked image (next_answer r) a (ap (λ (x : LiveNumber). (next_answer x).code) e))
     where
-      go : (o : Option ℕ) → n ∷ [] ≡ to_list o → o ≡ some n
-      go none v = absurd (omega (arith, ap length v))
-      go (some m) v = ap (λ (l : List ℕ). some (get_or l 0 0)) (sym v)
+      go : (o : Option ℕ) → n ∷ [] ≡ to_list o → o ≡ Some n
+      go None v = absurd (omega (arith, ap length v))
+      go (Some m) v = ap (λ (l : List ℕ). Some (get_or l 0 0)) (sym v)
 
-  pub answer-none : {code : ℕ} → refusal image partition ≡ 0 → r ≡ Refused code → lowest_live image from ≡ none
+  pub answer-none : {code : ℕ} → refusal image partition ≡ 0 → r ≡ Refused code → lowest_live image from ≡ None
   unfolding code_of
   answer-none {code} passed e = go (lowest_live image from) refl
     where
-      go : (o : Option ℕ) → lowest_live image from ≡ o → o ≡ none
-      go none q = refl
-      go (some m) q =
+      go : (o : Option ℕ) → lowest_live image from ≡ o → o ≡ None
+      go None q = refl
+      go (Some m) q =
           let z : (next_answer r).code ≡ 0 = answered-code image asked image (next_answer r) a ∙ rw (passed, q) in
           let v = ap (λ (x : LiveNumber). (next_answer x).values) (sym e) ∙ accepted-values image asked image (next_answer r) a z ∙ ap to_list q in
           absurd (omega (arith, ap length v))

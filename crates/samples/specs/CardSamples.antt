@@ -2,7 +2,7 @@
 -- expected values come from tests/vectors/card.py, which prints a line for each row, in this order.
 -- Assumes nothing.
 use Rattle.std.specs.Prelude.{ℕ, List, [], ◌∷◌, ◌++◌, map, length, take, replicate, set}
-use Rattle.std.proofs.Math.Option.{Option, none, some}
+use Rattle.std.specs.Prelude.{Option, None, Some}
 use Rattle.words.specs.Lists.{concat, numbers_from}
 use Rattle.verdicts.specs.declared.Place.{Place}
 use Rattle.verdicts.specs.declared.Place.TheVariants.{Whole, Block, Entry}
@@ -51,8 +51,8 @@ link_numbers Bad = 4 ∷ 0 ∷ []
 
 -- 0 for a bad chain, or 1 and its blocks.
 abbrev pub chain_numbers : Option (List ℕ) → List ℕ
-chain_numbers none = 0 ∷ []
-chain_numbers (some blocks) = 1 ∷ blocks
+chain_numbers None = 0 ∷ []
+chain_numbers (Some blocks) = 1 ∷ blocks
 
 -- ---- tables and entries
 

@@ -3,7 +3,7 @@ use Prim.Native.Nat.{ℕ, zero, suc}
 use mathlib.Core.Path.{◌≡◌, refl, sym, ap, ◌∙◌}
 use mathlib.Core.Bool.{Bool, true, false, not, cond, ◌||◌, true≢false}
 use mathlib.Core.List.{List, [], ◌∷◌, ◌++◌}
-use mathlib.Core.Option.{Option, none, some}
+use Rattle.std.specs.Prelude.{Option, None, Some}
 use mathlib.Core.Logic.{◌≢◌}
 use native.Mathlib.Omega.{arith}
 use native.Mathlib.Decide.{ℕ_discrete}
@@ -41,21 +41,21 @@ refused-by image c n slot e =
 -- what such a call is known to be past 1 to 5
 record GivesSlot (image : List ℕ) (c : Call) (rows : ℕ) (slot : Option ℕ) : Type 0 where
   code_is : code_of image c ≡ rows
-  is_there : rows ≡ 0 → slot ≢ none
+  is_there : rows ≡ 0 → slot ≢ None
   values_are : values_of image c ≡ to_list slot
   buffers_are : filled_buffers image c ≡ buffers_of c
 
 slot-given : (image : List ℕ) (c : Call) (image' : List ℕ) (rows : ℕ) (slot : Option ℕ) → GivesSlot image c rows slot
     → image' ≡ cond (eqb rows 0) (changed_image image c) image → Answered image c image' (slot_answer (slot_or rows slot) (buffers_of c))
-slot-given image c image' zero none g i = absurd (g.is_there refl refl)
-slot-given image c image' zero (some slot) g i = rw (i, sym g.values_are, sym g.buffers_are) (answer-done image c g.code_is)
+slot-given image c image' zero None g i = absurd (g.is_there refl refl)
+slot-given image c image' zero (Some slot) g i = rw (i, sym g.values_are, sym g.buffers_are) (answer-done image c g.code_is)
 slot-given image c image' (suc n) slot g i =
     let same : image' ≡ image = i ∙ rw (eqb-suc-zero n) in
     rw same (answer-refused image c (suc n) g.code_is (λ z. omega (arith, z)))
 
-there : (o : Option ℕ) → not (is_some o) ≡ false → o ≢ none
-there none e d = true≢false e
-there (some slot) e d = let z : ◌≡◌ {A = ℕ} 0 1 = cc in omega (arith, z)
+there : (o : Option ℕ) → not (is_some o) ≡ false → o ≢ None
+there None e d = true≢false e
+there (Some slot) e d = let z : ◌≡◌ {A = ℕ} 0 1 = cc in omega (arith, z)
 
 module _ (image : List ℕ) (partition : ℕ) (passed : slot_refusal image partition ≡ 0) where
   unchanged : (t : Bool) → image ≡ cond t image image
@@ -113,9 +113,9 @@ module _ (image : List ℕ) (partition : ℕ) (passed : slot_refusal image parti
     unfolding data_buffer
     read_done code left e l = go (ℕ_discrete (slot_read_rows image slot block buffer) 0)
       where
-        filled : (o : Option (List ℕ)) → o ≢ none → or_buffer o buffer ∷ [] ≡ to_list o
-        filled none h = absurd (h refl)
-        filled (some page) h = refl
+        filled : (o : Option (List ℕ)) → o ≢ None → or_buffer o buffer ∷ [] ≡ to_list o
+        filled None h = absurd (h refl)
+        filled (Some page) h = refl
 
         go : Dec (slot_read_rows image slot block buffer ≡ 0) → Answered image reading image (code_answer code (left ∷ []))
         go (yes z) =

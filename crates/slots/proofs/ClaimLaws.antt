@@ -3,7 +3,7 @@ use Prim.Native.Nat.{ℕ, ◌-◌, ◌≤◌}
 use mathlib.Core.Path.{◌≡◌, refl, ap, ◌∙◌}
 use mathlib.Core.Bool.{true, false, cond}
 use mathlib.Core.List.{List, ◌++◌}
-use mathlib.Core.Option.{none, some}
+use Rattle.std.specs.Prelude.{None, Some}
 use mathlib.Core.Logic.{◌≢◌, ◌⊎◌, inl, inr}
 use native.Mathlib.Omega.{arith}
 use lib.Dec.{eqb}
@@ -69,16 +69,16 @@ module _ (image one other : List ℕ) where
       claim-41 e = rw (eq-eqb (length one) 60 one_60, eq-eqb (length other) 60 other_60, e) (refl, refl)
 
       module _ (right : right_header (one ++ other) ≡ true) where
-        pub claim-40 : (product_slot image product ≡ none) × (free_slot image ≡ none) → ClaimAs (Refused 40) image
+        pub claim-40 : (product_slot image product ≡ None) × (free_slot image ≡ None) → ClaimAs (Refused 40) image
         unfolding claimed_image claim_rows claimed_slot product_of
         claim-40 f = rw (eq-eqb (length one) 60 one_60, eq-eqb (length other) 60 other_60, right, f.0, f.1) (refl, refl)
 
-        pub claim-has : {slot : ℕ} → product_slot image product ≡ some slot → ClaimAs (Hit slot) image
+        pub claim-has : {slot : ℕ} → product_slot image product ≡ Some slot → ClaimAs (Hit slot) image
         unfolding claimed_image claim_rows claimed_slot calls_made written_slot product_of
         claim-has e = rw (eq-eqb (length one) 60 one_60, eq-eqb (length other) 60 other_60, right, e) (refl, refl)
 
         -- the lowest slot that is not valid, and what the saves leave
-        module _ {log : OpenedLog} (u : SlotUsable image log) {slot : ℕ} (none_has : product_slot image product ≡ none) (free : free_slot image ≡ some slot) where
+        module _ {log : OpenedLog} (u : SlotUsable image log) {slot : ℕ} (none_has : product_slot image product ≡ None) (free : free_slot image ≡ Some slot) where
           accepted : code_of image (on_pages (claim 3 one other)) ≡ 0
           unfolding code_of claim_rows claimed_slot product_of slot_size slot_partition
           accepted =

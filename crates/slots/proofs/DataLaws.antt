@@ -3,7 +3,7 @@ use Prim.Native.Nat.{ℕ, ◌+◌, ◌≤◌, ◌<◌}
 use mathlib.Core.Path.{◌≡◌, refl, sym, ap, ◌∙◌}
 use mathlib.Core.Bool.{Bool, true, false, not, cond}
 use mathlib.Core.List.{List}
-use mathlib.Core.Option.{Option, none, some}
+use Rattle.std.specs.Prelude.{Option, None, Some}
 use mathlib.Core.Logic.{◌≢◌}
 use native.Mathlib.Omega.{arith}
 use lib.Dec.{eqb}
@@ -30,22 +30,22 @@ module _ (image : List ℕ) (n : ℕ) (buffer : List ℕ) (legal : n ≤ top_num
   unfolding read_rows
   read-row = rw (le-legal (length image) n legal, eq-eqb (length buffer) 60 sixty)
 
-  pub page-there : {code : ℕ} {left : List ℕ} → code ≡ read_rows image n buffer → left ≡ read_buffer image n buffer → code ≡ 0 → contents image n ≡ some left
+  pub page-there : {code : ℕ} {left : List ℕ} → code ≡ read_rows image n buffer → left ≡ read_buffer image n buffer → code ≡ 0 → contents image n ≡ Some left
   unfolding read_buffer
   page-there {code} {left} e f z = go (contents image n) refl
     where
-      go : (o : Option (List ℕ)) → contents image n ≡ o → contents image n ≡ some left
-      go none q = let s : read_rows image n buffer ≡ 7 = read-row ∙ rw q in absurd (omega (arith, z, e, s))
-      go (some page) q =
+      go : (o : Option (List ℕ)) → contents image n ≡ o → contents image n ≡ Some left
+      go None q = let s : read_rows image n buffer ≡ 7 = read-row ∙ rw q in absurd (omega (arith, z, e, s))
+      go (Some page) q =
           let p : left ≡ page = f ∙ rw (read-row, q) in
-          q ∙ ap (λ (x : List ℕ). some x) (sym p)
+          q ∙ ap (λ (x : List ℕ). Some x) (sym p)
 
-  pub page-missing : {code : ℕ} → code ≡ read_rows image n buffer → code ≢ 0 → contents image n ≡ none
+  pub page-missing : {code : ℕ} → code ≡ read_rows image n buffer → code ≢ 0 → contents image n ≡ None
   page-missing {code} e d = go (contents image n) refl
     where
-      go : (o : Option (List ℕ)) → contents image n ≡ o → contents image n ≡ none
-      go none q = q
-      go (some page) q = let s : read_rows image n buffer ≡ 0 = read-row ∙ rw q in absurd (d (e ∙ s))
+      go : (o : Option (List ℕ)) → contents image n ≡ o → contents image n ≡ None
+      go None q = q
+      go (Some page) q = let s : read_rows image n buffer ≡ 0 = read-row ∙ rw q in absurd (d (e ∙ s))
 
 -- the slots' numbers, up to the last one's 423, are numbers of the partition
 pub in_range : {image : List ℕ} {log : OpenedLog} → SlotUsable image log → {n : ℕ} → n ≤ 423 → n ≤ top_number (length image)

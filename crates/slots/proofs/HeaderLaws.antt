@@ -3,7 +3,7 @@ use Prim.Native.Nat.{ℕ, zero, suc, ◌≤◌, ◌<◌}
 use mathlib.Core.Path.{◌≡◌, refl, sym, ap, subst, ◌∙◌}
 use mathlib.Core.Bool.{Bool, true, false, and-false, false≢true}
 use mathlib.Core.List.{List, ◌++◌, append-nil}
-use mathlib.Core.Option.{Option, none, some, map}
+use Rattle.std.specs.Prelude.{Option, None, Some, option_map}
 use mathlib.Core.Logic.{◌≢◌}
 use native.Mathlib.Omega.{arith}
 use lib.Dec.{eqb}
@@ -64,7 +64,7 @@ module _ (header : List ℕ) where
 
 -- the answer that a header is right or not, and the header that is left
 abbrev pub Told : Option (List ℕ) → Bool → List ℕ → Type 0
-Told found answer left = (answer ≡ is_right found) × (answer ≡ true → found ≡ some left)
+Told found answer left = (answer ≡ is_right found) × (answer ≡ true → found ≡ Some left)
 
 module _ (image : List ℕ) where
   pub no_first : (one other : ℕ) (left : List ℕ) → one ≡ 0 → Told (header_in image one other) false left
@@ -83,7 +83,7 @@ module _ (image : List ℕ) where
   unfolding header_in
   both-there zero other answer left h l e r = absurd (h refl)
   both-there (suc j) zero answer left h l e r = absurd (l refl)
-  both-there (suc j) (suc k) answer left h l e r = (r ∙ ap right_header e, λ t. ap (λ (x : List ℕ). some x) (sym e))
+  both-there (suc j) (suc k) answer left h l e r = (r ∙ ap right_header e, λ t. ap (λ (x : List ℕ). Some x) (sym e))
 
 -- ---- the header of a slot
 
@@ -92,20 +92,20 @@ module _ (image : List ℕ) where
   unfolding contents
   contents-place n = go (holder image n) refl
     where
-      low : (k : ℕ) → holder image n ≡ some k → 1 ≤ k
+      low : (k : ℕ) → holder image n ≡ Some k → 1 ≤ k
       low k q = (holder-held image n k q).highest_one.low
 
-      go : (o : Option ℕ) → holder image n ≡ o → map (λ k. payload (block_at image k)) o ≡ page_in image (place_of o)
-      go none q = refl
-      go (some zero) q = absurd (omega (arith, low zero q))
-      go (some (suc k)) q = refl
+      go : (o : Option ℕ) → holder image n ≡ o → option_map (λ k. payload (block_at image k)) o ≡ page_in image (place_of o)
+      go None q = refl
+      go (Some zero) q = absurd (omega (arith, low zero q))
+      go (Some (suc k)) q = refl
 
   place-high : (n : ℕ) → place_of (holder image n) ≤ capacity (length image)
   place-high n = go (holder image n) refl
     where
       go : (o : Option ℕ) → holder image n ≡ o → place_of o ≤ capacity (length image)
-      go none q = omega arith
-      go (some k) q = (holder-held image n k q).highest_one.high
+      go None q = omega arith
+      go (Some k) q = (holder-held image n k q).highest_one.high
 
   module _ {size : ℕ} {places : List ℕ} (p : SlotPlaces image size places) where
     pub placed-high : (n : ℕ) → n < 510 → get_or places n 0 ≤ capacity size
@@ -118,19 +118,19 @@ module _ (image : List ℕ) where
     header-placed slot {n} {m} e f h l = sym (rw (sym e, sym f, contents-place n, contents-place m, p.each n h, p.each m l))
 
   module _ (slot : ℕ) where
-    pub first-missing : {n : ℕ} → n ≡ slot_number slot 0 → contents image n ≡ none → false ≡ valid_slot image slot
+    pub first-missing : {n : ℕ} → n ≡ slot_number slot 0 → contents image n ≡ None → false ≡ valid_slot image slot
     unfolding valid_slot slot_header
     first-missing q e = rw (sym q, e)
 
-    pub second-missing : {n : ℕ} → n ≡ slot_number slot 1 → contents image n ≡ none → false ≡ valid_slot image slot
+    pub second-missing : {n : ℕ} → n ≡ slot_number slot 1 → contents image n ≡ None → false ≡ valid_slot image slot
     unfolding valid_slot slot_header
     second-missing q e = rw (sym q, e) (go (contents image (slot_number slot 0)))
       where
-        go : (o : Option (List ℕ)) → false ≡ is_right (joined o none)
-        go none = refl
-        go (some page) = refl
+        go : (o : Option (List ℕ)) → false ≡ is_right (joined o None)
+        go None = refl
+        go (Some page) = refl
 
-    pub both-valid : {n m : ℕ} {one other : List ℕ} → n ≡ slot_number slot 0 → m ≡ slot_number slot 1 → contents image n ≡ some one → contents image m ≡ some other
+    pub both-valid : {n m : ℕ} {one other : List ℕ} → n ≡ slot_number slot 0 → m ≡ slot_number slot 1 → contents image n ≡ Some one → contents image m ≡ Some other
         → right_header (one ++ other) ≡ valid_slot image slot
     unfolding valid_slot slot_header
     both-valid q r e f = rw (sym q, sym r, e, f)

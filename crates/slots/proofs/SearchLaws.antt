@@ -3,7 +3,7 @@ use Prim.Native.Nat.{ℕ, ◌+◌, ◌-◌, ◌≤◌, ◌<◌}
 use mathlib.Core.Path.{◌≡◌, refl, sym, ap, ◌∙◌}
 use mathlib.Core.Bool.{Bool, true, false, not, cond, ◌&&◌}
 use mathlib.Core.List.{List}
-use mathlib.Core.Option.{Option, none, some}
+use Rattle.std.specs.Prelude.{Option, None, Some}
 use mathlib.Core.Logic.{◌≢◌}
 use native.Mathlib.Omega.{arith}
 use lib.Dec.{eqb, leb}
@@ -51,7 +51,7 @@ module _ {image : List ℕ} {log : OpenedLog} (u : SlotUsable image log) where
 
 module _ (image : List ℕ) (product : List ℕ) (slot : ℕ) where
   -- a header that is right decides by its product number
-  pub by_product : {header : List ℕ} {t : Bool} → valid_slot image slot ≡ true → slot_header image slot ≡ some header → same_bytes (take 10 (drop 2 header)) product ≡ t
+  pub by_product : {header : List ℕ} {t : Bool} → valid_slot image slot ≡ true → slot_header image slot ≡ Some header → same_bytes (take 10 (drop 2 header)) product ≡ t
       → has_product product (slot_header image slot) ≡ t
   unfolding valid_slot product_of
   by_product {header} {t} v q e = rw (q, right, e)
@@ -64,8 +64,8 @@ module _ (image : List ℕ) (product : List ℕ) (slot : ℕ) where
   not_right v = go (slot_header image slot) v
     where
       go : (o : Option (List ℕ)) → is_right o ≡ false → has_product product o ≡ false
-      go none e = refl
-      go (some header) e = rw e
+      go None e = refl
+      go (Some header) e = rw e
 
 -- ---- the search for a product number
 
@@ -78,7 +78,7 @@ module _ (image product : List ℕ) where
 
   -- the lowest slot that is not valid: `free` once there is one, else it is still to come
   abbrev free_from : ℕ → ℕ → Option ℕ
-  free_from free slot = cond (eqb free 100) (lowest unused slot (slot_count - slot)) (some free)
+  free_from free slot = cond (eqb free 100) (lowest unused slot (slot_count - slot)) (Some free)
 
   pub record SearchAt (free slot : ℕ) : Type 0 where
     pub few : slot ≤ 100
@@ -105,7 +105,7 @@ module _ (image product : List ℕ) where
     pub next-valid : valid_slot image slot ≡ true → matches slot ≡ false → SearchAt free (slot + 1)
     next-valid v e = record { few = omega (arith, low); none_yet = passed e; free_is = s.free_is ∙ go (eqb free 100) }
       where
-        go : (t : Bool) → cond t (lowest unused slot (slot_count - slot)) (some free) ≡ cond t (lowest unused (slot + 1) (slot_count - (slot + 1))) (some free)
+        go : (t : Bool) → cond t (lowest unused slot (slot_count - slot)) (Some free) ≡ cond t (lowest unused (slot + 1) (slot_count - (slot + 1))) (Some free)
         go true = lowest-next unused slot slot_count below (rw v)
         go false = refl
 
@@ -129,45 +129,45 @@ module _ (image product : List ℕ) where
     at-end : slot_count ≤ slot
     at-end = omega (arith, done, slot-count)
 
-    no-match : product_slot image product ≡ none
+    no-match : product_slot image product ≡ None
     no-match = s.none_yet ∙ lowest-end matches slot slot_count at-end
 
     pub none_free : free ≡ 100 → Full ≡ searched_of (product_slot image product) (free_slot image)
-    none_free e = let f : free_slot image ≡ none = s.free_is ∙ rw (eq-eqb free 100 e) (lowest-end unused slot slot_count at-end) in rw (no-match, f)
+    none_free e = let f : free_slot image ≡ None = s.free_is ∙ rw (eq-eqb free 100 e) (lowest-end unused slot slot_count at-end) in rw (no-match, f)
 
     pub one_free : free ≢ 100 → Free free ≡ searched_of (product_slot image product) (free_slot image)
-    one_free d = let f : free_slot image ≡ some free = s.free_is ∙ rw (ne_eqb free 100 d) in rw (no-match, f)
+    one_free d = let f : free_slot image ≡ Some free = s.free_is ∙ rw (ne_eqb free 100 d) in rw (no-match, f)
 
 -- what was found, by the answer
 module _ (image product : List ℕ) where
   abbrev pub Found : Searched → Type 0
   Found r = r ≡ searched_of (product_slot image product) (free_slot image)
 
-  pub told-has : (slot : ℕ) → Found (Has slot) → product_slot image product ≡ some slot
+  pub told-has : (slot : ℕ) → Found (Has slot) → product_slot image product ≡ Some slot
   told-has slot e = go (product_slot image product) (free_slot image) e
     where
-      go : (o f : Option ℕ) → Has slot ≡ searched_of o f → o ≡ some slot
-      go (some k) f e = let q : slot ≡ k = cc in ap (λ (n : ℕ). some n) (sym q)
-      go none (some k) e = let z : ◌≡◌ {A = ℕ} 0 1 = cc in absurd (omega arith)
-      go none none e = let z : ◌≡◌ {A = ℕ} 0 1 = cc in absurd (omega arith)
+      go : (o f : Option ℕ) → Has slot ≡ searched_of o f → o ≡ Some slot
+      go (Some k) f e = let q : slot ≡ k = cc in ap (λ (n : ℕ). Some n) (sym q)
+      go None (Some k) e = let z : ◌≡◌ {A = ℕ} 0 1 = cc in absurd (omega arith)
+      go None None e = let z : ◌≡◌ {A = ℕ} 0 1 = cc in absurd (omega arith)
 
-  pub told_free : (slot : ℕ) → Found (Free slot) → (product_slot image product ≡ none) × (free_slot image ≡ some slot)
+  pub told_free : (slot : ℕ) → Found (Free slot) → (product_slot image product ≡ None) × (free_slot image ≡ Some slot)
   told_free slot e = go (product_slot image product) refl (free_slot image) refl e
     where
       go : (o : Option ℕ) → product_slot image product ≡ o → (f : Option ℕ) → free_slot image ≡ f → Free slot ≡ searched_of o f
-          → (product_slot image product ≡ none) × (free_slot image ≡ some slot)
-      go (some k) p f q e = let z : ◌≡◌ {A = ℕ} 0 1 = cc in absurd (omega arith)
-      go none p (some k) q e = let r : slot ≡ k = cc in (p, q ∙ ap (λ (n : ℕ). some n) (sym r))
-      go none p none q e = let z : ◌≡◌ {A = ℕ} 0 1 = cc in absurd (omega arith)
+          → (product_slot image product ≡ None) × (free_slot image ≡ Some slot)
+      go (Some k) p f q e = let z : ◌≡◌ {A = ℕ} 0 1 = cc in absurd (omega arith)
+      go None p (Some k) q e = let r : slot ≡ k = cc in (p, q ∙ ap (λ (n : ℕ). Some n) (sym r))
+      go None p None q e = let z : ◌≡◌ {A = ℕ} 0 1 = cc in absurd (omega arith)
 
-  pub told-full : Found Full → (product_slot image product ≡ none) × (free_slot image ≡ none)
+  pub told-full : Found Full → (product_slot image product ≡ None) × (free_slot image ≡ None)
   told-full e = go (product_slot image product) refl (free_slot image) refl e
     where
       go : (o : Option ℕ) → product_slot image product ≡ o → (f : Option ℕ) → free_slot image ≡ f → Full ≡ searched_of o f
-          → (product_slot image product ≡ none) × (free_slot image ≡ none)
-      go (some k) p f q e = let z : ◌≡◌ {A = ℕ} 0 1 = cc in absurd (omega arith)
-      go none p (some k) q e = let z : ◌≡◌ {A = ℕ} 0 1 = cc in absurd (omega arith)
-      go none p none q e = (p, q)
+          → (product_slot image product ≡ None) × (free_slot image ≡ None)
+      go (Some k) p f q e = let z : ◌≡◌ {A = ℕ} 0 1 = cc in absurd (omega arith)
+      go None p (Some k) q e = let z : ◌≡◌ {A = ℕ} 0 1 = cc in absurd (omega arith)
+      go None p None q e = (p, q)
 
   -- ---- a find
 
@@ -179,11 +179,11 @@ module _ (image product : List ℕ) where
   find-8 d = rw (ne_eqb (length product) 10 d)
 
   module _ (ten : length product ≡ 10) where
-    pub find-slot : {slot : ℕ} → product_slot image product ≡ some slot → FoundAs (Hit slot)
+    pub find-slot : {slot : ℕ} → product_slot image product ≡ Some slot → FoundAs (Hit slot)
     unfolding find_rows
     find-slot e = rw (eq-eqb (length product) 10 ten, e)
 
-    pub find-7 : product_slot image product ≡ none → FoundAs (Refused 7)
+    pub find-7 : product_slot image product ≡ None → FoundAs (Refused 7)
     unfolding find_rows
     find-7 e = rw (eq-eqb (length product) 10 ten, e)
 
@@ -207,7 +207,7 @@ module _ (image : List ℕ) (start : ℕ) where
           by false e = refl
 
       go : (o : Option ℕ) → lowest (valid_slot image) start (slot_count - start) ≡ o → lowest valid_from 0 slot_count ≡ lowest (valid_slot image) start (slot_count - start)
-      go (some k) q =
+      go (Some k) q =
           let w = lowest-some (valid_slot image) start (slot_count - start) k q in
           lowest-is valid_from 0 slot_count k (record {
             low = omega arith;
@@ -215,7 +215,7 @@ module _ (image : List ℕ) (start : ℕ) where
             passes = rw (le-leb start k w.low) w.passes;
             none_below = λ j a b. apart j (λ h. w.none_below j h b);
           }) ∙ sym q
-      go none q =
+      go None q =
           lowest-nothing valid_from 0 slot_count (λ k a b. apart k (λ h. lowest-none (valid_slot image) start (slot_count - start) q k h (omega (arith, h, b))))
           ∙ sym q
 
@@ -231,7 +231,7 @@ module _ (image : List ℕ) (start : ℕ) where
 
   pub next_here : {slot : ℕ} → NextAt slot → slot < 100 → valid_slot image slot ≡ true → Answers (Hit slot)
   next_here {slot} s low e =
-      let q : lowest_valid image start ≡ some slot = s.not_yet ∙ lowest-here (valid_slot image) slot slot_count (omega (arith, low, slot-count)) e in
+      let q : lowest_valid image start ≡ Some slot = s.not_yet ∙ lowest-here (valid_slot image) slot slot_count (omega (arith, low, slot-count)) e in
       rw q
 
   pub next-on : {slot : ℕ} → NextAt slot → slot < 100 → valid_slot image slot ≡ false → NextAt (slot + 1)
@@ -239,5 +239,5 @@ module _ (image : List ℕ) (start : ℕ) where
 
   pub next-none : {slot : ℕ} → NextAt slot → 100 ≤ slot → Answers (Refused 7)
   next-none {slot} s done =
-      let q : lowest_valid image start ≡ none = s.not_yet ∙ lowest-end (valid_slot image) slot slot_count (omega (arith, done, slot-count)) in
+      let q : lowest_valid image start ≡ None = s.not_yet ∙ lowest-end (valid_slot image) slot slot_count (omega (arith, done, slot-count)) in
       rw q

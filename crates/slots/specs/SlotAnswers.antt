@@ -1,7 +1,7 @@
 -- What the slot calls' answers are as the papers' numbers, values and buffers.
 -- Assumes nothing.
 use Rattle.std.specs.Prelude.{ℕ, zero, suc, cond, List, [], ◌∷◌, eqb}
-use Rattle.std.proofs.Math.Option.{Option, none, some}
+use Rattle.std.specs.Prelude.{Option, None, Some}
 use Rattle.flash_model.specs.Partition.{contents}
 use Rattle.flash_model.specs.Slots.{data_number}
 use Rattle.flash_model.specs.Calls.{Reply, code_answer, slot_read_rows, claim_rows, after_pages, calls_made}
@@ -21,15 +21,15 @@ slot_answer (Hit slot) lent = record { code = 0; values = slot ∷ []; buffers =
 
 -- The refusal of the rows, or the slot that was found: where the rows let pass there is one.
 abbrev pub slot_or : ℕ → Option ℕ → GivenSlot
-slot_or zero none = Refused 0
-slot_or zero (some slot) = Hit slot
+slot_or zero None = Refused 0
+slot_or zero (Some slot) = Hit slot
 slot_or (suc n) found = Refused (suc n)
 
 -- The slot with the product number, else the lowest that is not valid.
 abbrev pub searched_of : Option ℕ → Option ℕ → Searched
-searched_of (some slot) free = Has slot
-searched_of none (some slot) = Free slot
-searched_of none none = Full
+searched_of (Some slot) free = Has slot
+searched_of None (Some slot) = Free slot
+searched_of None None = Full
 
 -- What a read leaves in its buffer: "A refusal changes no byte of any buffer."
 unfoldable pub data_buffer : List ℕ → ℕ → ℕ → List ℕ → List ℕ

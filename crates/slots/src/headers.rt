@@ -1,6 +1,6 @@
 // A slot's header: the two pages of 60 bytes, one behind the other.
 ghost use Rattle.std.specs.Prelude.{◌≡◌, true, ◌++◌, ◌≤◌, length};
-ghost use Rattle.std.proofs.Math.Option.{some};
+ghost use Rattle.std.specs.Prelude.{Some};
 ghost use Rattle.flash_model.specs.Measures.{capacity};
 ghost use Rattle.flash_model.specs.Slots.{right_header, is_right};
 ghost use Rattle.flash_measures.specs.HasMeasures.{HasMeasures};
@@ -40,7 +40,7 @@ pub(crate) fn valid_header(image: &[u8], m: Measures, k: usize, l: usize, header
     requires has_measures { HasMeasures image.now m.size }
     requires k_bound { (k ≤ capacity m.size) × (l ≤ capacity m.size) × (length header.old ≡ 120) }
     ensures value { result ≡ is_right (header_in image.now k l) }
-    ensures l_value { result ≡ true → header_in image.now k l ≡ some header.new }
+    ensures l_value { result ≡ true → header_in image.now k l ≡ Some header.new }
 {
     if k == 0 {
         return false;

@@ -1,6 +1,6 @@
 // The searches over all slots: one pass over the blocks finds the place of every number, then each header is looked at once.
 ghost use Rattle.std.specs.Prelude.{◌≡◌, true, not, ◌<◌, length};
-ghost use Rattle.std.proofs.Math.Option.{some};
+ghost use Rattle.std.specs.Prelude.{Some};
 ghost use Rattle.words.specs.Lists.{is_some};
 ghost use Rattle.flash_model.specs.Partition.{row};
 ghost use Rattle.flash_model.specs.Calls.{find_rows};
@@ -34,7 +34,7 @@ fn slot_header(image: &[u8], m: Measures, places: &[u16], slot: usize, header: &
     requires slot_places { SlotPlaces image.now m.size places.now }
     requires slot_bound { (slot < 100) × (length header.old ≡ 120) }
     ensures value { result ≡ valid_slot image.now slot }
-    ensures slot_value { result ≡ true → slot_header image.now slot ≡ some header.new }
+    ensures slot_value { result ≡ true → slot_header image.now slot ≡ Some header.new }
 {
     let one = places[slot_number(slot, 0)] as usize;
     let other = places[slot_number(slot, 1)] as usize;

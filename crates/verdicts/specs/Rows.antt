@@ -1,7 +1,7 @@
 -- Rows of the table of numbers: document 01, "Numbers the bench will see".
 -- Assumes nothing.
 use Rattle.std.specs.Prelude.{ℕ, Bool, cond, eqb}
-use Rattle.std.proofs.Math.Option.{Option, none, some}
+use Rattle.std.specs.Prelude.{Option, None, Some}
 use Rattle.verdicts.specs.declared.Place.{Place}
 use Rattle.verdicts.specs.declared.Place.TheVariants.{Whole, Block, Entry}
 use Rattle.verdicts.specs.declared.Verdict.{Verdict}
@@ -28,8 +28,8 @@ row_at n p test = cond test (refused_at n p) done
 
 -- A row that is tested of blocks or entries: the number at the first of them that was found wrong.
 abbrev pub row_over : ℕ → (ℕ → Place) → Option ℕ → Verdict
-row_over n p none = done
-row_over n p (some i) = refused_at n (p i)
+row_over n p None = done
+row_over n p (Some i) = refused_at n (p i)
 
 -- Rows in their order, "each over the whole card before the next": the later ones decide where this one does not refuse.
 abbrev pub unless_refused : Verdict → Verdict → Verdict

@@ -34,8 +34,8 @@ word_next n {s} {at} {u} b known here h =
 
 pub word-one : {s : List ℕ} {at : ℕ} (b : ℕ) → get_or s at 0 ≡ b → b < 256 → Big 1 s at b
 word-one {s} {at} b here h =
-    let none : Big 0 s at 0 = record { says = refl } in
-    subst (Big 1 s at) (zero-add b) (word_next 0 b none (ap (λ (i : ℕ). get_or s i 0) (add-zero at) ∙ here) h)
+    let None : Big 0 s at 0 = record { says = refl } in
+    subst (Big 1 s at) (zero-add b) (word_next 0 b None (ap (λ (i : ℕ). get_or s i 0) (add-zero at) ∙ here) h)
 
 -- one word behind another
 pub word-cat : (m n : ℕ) {s : List ℕ} {at u v : ℕ} → Big m s at u → Big n s (at + m) v → Big (m + n) s at (u * 2 ^ (n * 8) + v)

@@ -102,9 +102,9 @@ one_more p x k (suc n) a b e =
     go ih (no d) = rw (ne_eqb x k d) (omega (arith, ih (omega (arith, d))))
 
 pub count-has : (k : ℕ) (l : List ℕ) → Distinct l → All (λ x. x < k) l → length (keep (λ n. has n l) (numbers_from 0 k)) ≡ length l
-count-has k [] d a = none 0 k
+count-has k [] d a = None 0 k
   where
-    none : (j n : ℕ) → length (keep (λ i. false) (numbers_from j n)) ≡ 0
-    none j zero = refl
-    none j (suc n) = none (suc j) n
+    None : (j n : ℕ) → length (keep (λ i. false) (numbers_from j n)) ≡ 0
+    None j zero = refl
+    None j (suc n) = None (suc j) n
 count-has k (x ∷ l) d a = one_more (λ n. has n l) x 0 k (omega arith) (omega (arith, a.0)) d.0 ∙ ap suc (count-has k l d.1 a.1)

@@ -1,3 +1,4 @@
+pub mod OptionLaws
 pub mod Bools
 pub mod ListLaws
 pub mod SearchLaws

@@ -3,7 +3,7 @@ use Prim.Native.Nat.{ℕ, zero, suc, ◌+◌, ◌-◌, ◌≤◌, ◌<◌}
 use mathlib.Core.Path.{◌≡◌, ap, ◌∙◌}
 use mathlib.Core.Bool.{Bool, true, false}
 use mathlib.Core.List.{[], ◌∷◌}
-use mathlib.Core.Option.{none, some}
+use Rattle.std.specs.Prelude.{None, Some}
 use native.Mathlib.Omega.{arith}
 use Rattle.words.specs.Lists.{any_of, numbers_from}
 use Rattle.words.specs.Search.{highest, lowest}
@@ -31,7 +31,7 @@ module _ (p : ℕ → Bool) (k e : ℕ) where
   pub any-end : e ≤ k → any_of p (numbers_from k (e - k)) ≡ false
   any-end h = ap (any_of p) (numbers-end h)
 
-  pub lowest-here : k < e → p k ≡ true → lowest p k (e - k) ≡ some k
+  pub lowest-here : k < e → p k ≡ true → lowest p k (e - k) ≡ Some k
   lowest-here h q = ap (lowest p k) (left-next h) ∙ rw q
 
   pub lowest-next : k < e → p k ≡ false → lowest p k (e - k) ≡ lowest p (k + 1) (e - (k + 1))
@@ -39,12 +39,12 @@ module _ (p : ℕ → Bool) (k e : ℕ) where
       let f : suc k ≡ k + 1 = omega arith in
       ap (lowest p k) (left-next h) ∙ rw q (ap (λ (j : ℕ). lowest p j (e - (k + 1))) f)
 
-  pub lowest-end : e ≤ k → lowest p k (e - k) ≡ none
+  pub lowest-end : e ≤ k → lowest p k (e - k) ≡ None
   lowest-end h = ap (lowest p k) (left-none h)
 
 -- ---- downwards
 
-pub highest-here : (p : ℕ → Bool) (k : ℕ) → 0 < k → p k ≡ true → highest p k ≡ some k
+pub highest-here : (p : ℕ → Bool) (k : ℕ) → 0 < k → p k ≡ true → highest p k ≡ Some k
 highest-here p zero h q = absurd (omega arith)
 highest-here p (suc k) h q = rw q
 
@@ -54,7 +54,7 @@ highest-next p (suc k) h q =
     let e : k ≡ suc k - 1 = omega arith in
     rw q (ap (highest p) e)
 
-pub highest-end : (p : ℕ → Bool) (k : ℕ) → k ≤ 0 → highest p k ≡ none
+pub highest-end : (p : ℕ → Bool) (k : ℕ) → k ≤ 0 → highest p k ≡ None
 highest-end p k h =
     let e : k ≡ 0 = omega arith in
     ap (highest p) e

@@ -1,7 +1,7 @@
 -- Plain functions on lists and on optional values.
 -- Assumes nothing.
 use Rattle.std.specs.Prelude.{ℕ, zero, suc, ◌≡◌, Bool, true, false, cond, ◌||◌, List, [], ◌∷◌, ◌++◌, eqb}
-use Rattle.std.proofs.Math.Option.{Option, none, some}
+use Rattle.std.specs.Prelude.{Option, None, Some}
 
 module _ {A : Type 0} where
   -- The elements that pass the test, in order. (The library's `filter` takes a decision and no test.) `rest` has a name, since
@@ -21,13 +21,13 @@ module _ {A : Type 0} where
   concat (x ∷ xs) = x ++ concat xs
 
   abbrev pub is_some : Option A → Bool
-  is_some none = false
-  is_some (some x) = true
+  is_some None = false
+  is_some (Some x) = true
 
   -- The list of what is there: one element or none.
   abbrev pub to_list : Option A → List A
-  to_list none = []
-  to_list (some x) = x ∷ []
+  to_list None = []
+  to_list (Some x) = x ∷ []
 
 -- The number is in the list.
 abbrev pub has : ℕ → List ℕ → Bool

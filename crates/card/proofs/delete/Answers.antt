@@ -1,5 +1,5 @@
 use mathlib.Core.Path.{◌≡◌, sym, ◌∙◌}
-use mathlib.Core.Option.{some}
+use Rattle.std.specs.Prelude.{Some}
 use borrow.Author.Tests.{eq-eqb}
 use Rattle.card_model.specs.Layout.{directory_of}
 use Rattle.card_model.specs.Calls.{entry_named}
@@ -28,10 +28,10 @@ returns-in_default c =
 pub remove_file-requires : goal.remove_file-requires
 remove_file-requires c =
     let is_open = c.open-opened.ensures.open_card (eq-eqb _ _ c.if-opened-ne0.false) in
-    let named : entry_named (directory_of c.args.card.now) c.args.name.now ≡ some c.in-Hit.i = found_some _ _ (sym c.find_named.ensures ∙ c.in-Hit.is) in
+    let named : entry_named (directory_of c.args.card.now) c.args.name.now ≡ Some c.in-Hit.i = found_some _ _ (sym c.find_named.ensures ∙ c.in-Hit.is) in
     (is_open.rows, named-used _ _ _ named)
 
 pub returns : goal.returns
 returns c =
-    let named : entry_named (directory_of c.args.card.now) c.args.name.now ≡ some c.in-Hit.i = found_some _ _ (sym c.find_named.ensures ∙ c.in-Hit.is) in
+    let named : entry_named (directory_of c.args.card.now) c.args.name.now ≡ Some c.in-Hit.i = found_some _ _ (sym c.find_named.ensures ∙ c.in-Hit.is) in
     record { value = (removed _ _ _ c.open-opened.ensures.verdict_value c.if-opened-ne0.false c.if-name-ne12.false _ named _ c.done.ensures _ c.remove_file.ensures).0; card_after = (removed _ _ _ c.open-opened.ensures.verdict_value c.if-opened-ne0.false c.if-name-ne12.false _ named _ c.done.ensures _ c.remove_file.ensures).1 }

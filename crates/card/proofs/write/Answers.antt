@@ -5,7 +5,7 @@ use lib.ListN.{length, get_or, take}
 use borrow.Author.Tests.{eq-eqb}
 use Rattle.words.proofs.ListLaws.{all-at}
 use mathlib.Core.List.{List}
-use mathlib.Core.Option.{some}
+use Rattle.std.specs.Prelude.{Some}
 use Rattle.verdicts.specs.declared.Verdict.{Verdict}
 use Rattle.verdicts.specs.Rows.{done, unless_refused}
 use Rattle.card_model.specs.Layout.{table_of, entry_place, directory_of}
@@ -38,7 +38,7 @@ module _ (card : List ℕ) (f : NewFile) (offset : ℕ) {v : Verdict} (e : v ≡
         where-room : PassedRows card f offset × (take (blocks_of f - 0) free ≡ taken_blocks card f)
         where-room = (passed-rows card f offset (is-done card f offset _ _ l from-room h), taken-part card f offset _ _ l from-room h)
 
-        put-entry : {i : ℕ} → (PassedRows card f offset → lowest_unused (directory_of card) ≡ some i)
+        put-entry : {i : ℕ} → (PassedRows card f offset → lowest_unused (directory_of card) ≡ Some i)
             → {middle : List ℕ} → middle ≡ with_blocks card (take (blocks_of f - 0) free) f.content → {first : ℕ} → first ≡ get_or free 0 0
             → {after : List ℕ} → after ≡ with_part middle (entry_place i) (new_entry 0x33 f offset first) → {r : Verdict} → r ≡ done → WroteAs card f offset r after
         put-entry {i} u {middle} m b a d =

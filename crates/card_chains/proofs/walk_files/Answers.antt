@@ -3,7 +3,7 @@ use mathlib.Core.Path.{◌≡◌, refl, sym, ap, ◌∙◌}
 use mathlib.Core.Logic.{◌⊎◌, inl, inr}
 use mathlib.Core.Bool.{Bool, true, false, cond, false≢true}
 use mathlib.Core.List.{List}
-use mathlib.Core.Option.{none, some}
+use Rattle.std.specs.Prelude.{None, Some}
 use native.Mathlib.Omega.{arith}
 use lib.Dec.{ltb}
 use lib.ListN.{get_or}
@@ -29,16 +29,16 @@ module _ (card : List ℕ) where
   abbrev rows : Verdict
   rows = chain_rows (table_of card) (directory_of card)
 
-  chain-refused : (i : ℕ) → first_from (bad card) 0 ≡ some i → refused_at 27 (Entry i) ≡ rows
+  chain-refused : (i : ℕ) → first_from (bad card) 0 ≡ Some i → refused_at 27 (Entry i) ≡ rows
   unfolding chain_row first_from
   chain-refused i e = rw e
 
-  module _ (sound : first_from (bad card) 0 ≡ none) where
-    sharing-refused : (i : ℕ) → first_before (shares card) 208 ≡ some i → refused_at 28 (Entry i) ≡ rows
+  module _ (sound : first_from (bad card) 0 ≡ None) where
+    sharing-refused : (i : ℕ) → first_before (shares card) 208 ≡ Some i → refused_at 28 (Entry i) ≡ rows
     unfolding chain_row first_from sharing_row first_before
     sharing-refused i e = rw (sound, e)
 
-    neither-refused : first_before (shares card) 208 ≡ none → done ≡ rows
+    neither-refused : first_before (shares card) 208 ≡ None → done ≡ rows
     unfolding chain_row first_from sharing_row first_before
     neither-refused e = rw (sound, e)
 
@@ -65,7 +65,7 @@ module _ (card : List ℕ) {used : List ℕ} {count : ℕ} (list : Listed (direc
 
   -- the first that shares a block is kept, and no chain is bad
   module _ {first : ℕ} (kept : first ≡ or_end 208 (first_before (shares card) (reached used j))) (passed : first_from (bad card) 0 ≡ first_from (bad card) (reached used j)) where
-    none-bad : first_from (bad card) 0 ≡ none
+    none-bad : first_from (bad card) 0 ≡ None
     none-bad = passed ∙ found_none _ (bad card) (unused-bad _ _) list j z
 
     first-of-all : first ≡ or_end 208 (first_before (shares card) 208)
@@ -80,8 +80,8 @@ module _ (card : List ℕ) {used : List ℕ} {count : ℕ} (list : Listed (direc
 pub loop-j-init : goal.loop-j-init
 unfolding first_before
 loop-j-init c =
-    let none = c.requires.card_len.1 in
-    (omega arith, rw none (lengths-start _), refl, refl, λ h. rw none (marking-start _ _))
+    let None = c.requires.card_len.1 in
+    (omega arith, rw None (lengths-start _), refl, refl, λ h. rw None (marking-start _ _))
 
 pub walk_file-found-requires : goal.walk_file-found-requires
 walk_file-found-requires c =
@@ -124,8 +124,8 @@ loop-j-preserved c =
       c.loop-j.invariant.2 ∙ found-later _ (bad c.args.card.now) (unused-bad _ _) c.requires.listed j i is-entry h good,
       first_next (shares c.args.card.now) _ first _ _ _ b f before (λ n. walk-shares _ _ _ u walked sound (m n)) ∙ ap (λ (k : ℕ). or_end 208 (first_before (shares c.args.card.now) k)) on,
       λ n.
-          let none = still-none (shares c.args.card.now) _ first _ _ _ b f n in
-          rw on at (walk-marking _ _ _ u walked sound (m none.0) none.1),
+          let None = still-none (shares c.args.card.now) _ first _ _ _ b f n in
+          rw on at (walk-marking _ _ _ u walked sound (m None.0) None.1),
     )
 
 pub returns-then-first-lt208 : goal.returns-then-first-lt208

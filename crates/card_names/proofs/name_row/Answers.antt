@@ -48,17 +48,17 @@ loop-j-preserved c =
       | then-earlier-ne0+else-find_same-ne0 w ↦ name_free _ _ c.requires.listed j _ is-entry h (sought directory c.args.used.now _ c.entry_at.ensures.0 c.entry_slot-slot.ensures.0 newest w.wide.ensures.0 w.find_same.ensures) w.if-find_same-ne0.false
       | else-earlier-ne0 w ↦ name_free _ _ c.requires.listed j _ is-entry h (sought directory c.args.used.now _ c.entry_at.ensures.0 c.entry_slot-slot.ensures.0 newest (sym w.if-earlier-ne0.false) (last-of-none refl)) refl
     ] in
-    let none = c.loop-j.invariant.3 in
+    let None = c.loop-j.invariant.3 in
     let stored : c.if-earlier-ne0.next ≡ set c.loop-j.next j (get_or c.loop-j.slots c.entry_slot-slot.result 0) =
     elim c.if-earlier-ne0.branch [
       | then-earlier-ne0+else-find_same-ne0 w ↦ w.next-is
-      | else-earlier-ne0 w ↦ w.next-is ∙ unstored none _ b w.if-earlier-ne0.false
+      | else-earlier-ne0 w ↦ w.next-is ∙ unstored None _ b w.if-earlier-ne0.false
     ] in
     let slot = own-slot directory c.args.used.now _ c.entry_at.ensures.0 c.entry_slot-slot.ensures.0 ∙ ap (λ (i : ℕ). slot_of (name_of (entry_at directory i))) is-entry in (
       omega arith,
       rw stored (slots_next _ _ _ c.loop-j.invariant.1 b (listed_below c.requires.listed j _ refl h) slot c.entry_slot-slot.ensures.1 refl),
       c.loop-j.invariant.2 ∙ found-later _ (name_taken directory) (unused-free _) c.requires.listed j _ is-entry h q,
-      rw stored (none-next none _),
+      rw stored (none-next None _),
     )
 
 pub returns : goal.returns

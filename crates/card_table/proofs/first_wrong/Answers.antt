@@ -25,5 +25,5 @@ pub returns : goal.returns
 returns c =
     let a = c.args in
     let p = wrong_in a.region (table_of a.card.now) in
-    let none = c.loop-b.invariant.1 ∙ lowest-end p c.loop-b.b a.to (omega arith) in
-    absurd (false≢true (sym (any-lowest p a.from (a.to - a.from) ∙ ap is_some none) ∙ c.requires.from_value))
+    let None = c.loop-b.invariant.1 ∙ lowest-end p c.loop-b.b a.to (omega arith) in
+    absurd (false≢true (sym (any-lowest p a.from (a.to - a.from) ∙ ap is_some None) ∙ c.requires.from_value))

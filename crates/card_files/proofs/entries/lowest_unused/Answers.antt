@@ -1,7 +1,7 @@
 use Prim.Native.Nat.{ℕ}
 use native.Mathlib.Omega.{arith}
 use mathlib.Core.Path.{◌≡◌, sym, ap, ◌∙◌}
-use mathlib.Core.Option.{some}
+use Rattle.std.specs.Prelude.{Some}
 use Rattle.card_files.proofs.UnusedLaws.{counts-next, lacks-number, behind-all}
 use Rattle.card_files.proofs.entries.lowest_unused.Goals as goal
 
@@ -16,4 +16,4 @@ loop-j-preserved c =
 pub returns : goal.returns
 returns c directory list some-unused =
     let e : c.loop-j.j ≡ c.args.count = omega arith in
-    behind-all list c.loop-j.j c.loop-j.invariant.0 c.loop-j.invariant.1 e some-unused ∙ ap (λ (i : ℕ). some i) e
+    behind-all list c.loop-j.j c.loop-j.invariant.0 c.loop-j.invariant.1 e some-unused ∙ ap (λ (i : ℕ). Some i) e

@@ -2,7 +2,7 @@ use Prim.Native.Nat.{ℕ, ◌≤◌}
 use mathlib.Core.Path.{◌≡◌, sym, ap, subst, ◌∙◌}
 use mathlib.Core.Bool.{Bool, true, false}
 use mathlib.Core.List.{List, ◌++◌}
-use mathlib.Core.Option.{none, some}
+use Rattle.std.specs.Prelude.{None, Some}
 use native.Mathlib.Omega.{arith}
 use lib.ListN.{take, drop}
 use Rattle.flash_model.specs.Measures.{top_number}
@@ -26,7 +26,7 @@ module _ (image first second header : List ℕ) (joined : header ≡ first ++ se
   searched e = e ∙ ap (λ (h : List ℕ). searched_of (product_slot image (take 10 (drop 2 h))) (free_slot image)) joined
 
   freed : {s : Searched} {slot : ℕ} → s ≡ searched_of (product_slot image (take 10 (drop 2 header))) (free_slot image) → s ≡ Free slot
-      → (product_slot image (take 10 (drop 2 (first ++ second))) ≡ none) × (free_slot image ≡ some slot)
+      → (product_slot image (take 10 (drop 2 (first ++ second))) ≡ None) × (free_slot image ≡ Some slot)
   freed e q = told_free _ _ _ (sym q ∙ searched e)
 
 pub returns-then-first-ne60 : goal.returns-then-first-ne60
