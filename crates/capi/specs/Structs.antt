@@ -3,13 +3,13 @@
 use Rattle.std.specs.Prelude.{ℕ, get_or}
 use Rattle.verdicts.specs.declared.Place.{Place}
 use Rattle.verdicts.specs.declared.Place.TheVariants.{Whole, Block, Entry}
-use Rattle.verdicts.specs.declared.Verdict.{Verdict}
+use Rattle.verdicts.specs.Rows.{Verdict}
 use Rattle.verdicts.specs.Rows.{place_number}
 use Rattle.flash_model.specs.Calls.{Reply}
-use Rattle.card_model.specs.declared.Checked.{Checked}
+use Rattle.card_model.specs.Answers.{Checked}
 use Rattle.card_model.specs.declared.CopyProtection.{CopyProtection}
 use Rattle.card_model.specs.declared.CopyProtection.TheVariants.{Protected, Copyable}
-use Rattle.card_model.specs.declared.Listing.{Listing}
+use Rattle.card_model.specs.Answers.{Listing}
 use Rattle.capi.specs.declared.answers.ReportAnswer.{ReportAnswer}
 use Rattle.capi.specs.declared.answers.NextLiveAnswer.{NextLiveAnswer}
 use Rattle.capi.specs.declared.answers.SlotAnswer.{SlotAnswer}

@@ -7,8 +7,8 @@ use native.Mathlib.Omega.{arith}
 use borrow.Author.Tests.{eq-eqb, ne_eqb}
 use lib.ListN.{length, replicate}
 use Rattle.words.proofs.SearchLaws.{lowest-some}
-use Rattle.verdicts.specs.declared.Verdict.{Verdict}
-use Rattle.card_model.specs.declared.Checked.{Checked}
+use Rattle.verdicts.specs.Rows.{Verdict}
+use Rattle.card_model.specs.Answers.{Checked}
 use Rattle.card_model.specs.Layout.{table_of, directory_of}
 use Rattle.card_model.specs.Files as files
 use Rattle.card_model.specs.Calls.{verdict_of, check_of, not_checked, not_listed, first_used, listed_from, list_of, entry_named, read_rows, read_verdict, left_by, read_buffer}

@@ -7,7 +7,7 @@ use native.Mathlib.Omega.{arith}
 use lib.ListN.{length}
 use borrow.Author.Tests.{eq-eqb, ne_eqb}
 use Rattle.verdicts.specs.declared.Place.TheVariants.{Whole}
-use Rattle.verdicts.specs.declared.Verdict.{Verdict}
+use Rattle.verdicts.specs.Rows.{Verdict}
 use Rattle.verdicts.specs.Rows.{done, refused_at}
 use Rattle.verdicts.proofs.RowLaws.{refused_first, not_refused}
 use Rattle.card_model.specs.Layout.{card_length, table_of, directory_of}

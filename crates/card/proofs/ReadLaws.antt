@@ -12,7 +12,7 @@ use lib.ListN.{length, get_or, take, drop}
 use Rattle.words.proofs.Bools.{and-true-left}
 use Rattle.words.proofs.SearchLaws.{lowest-some}
 use Rattle.verdicts.specs.declared.Place.TheVariants.{Whole}
-use Rattle.verdicts.specs.declared.Verdict.{Verdict}
+use Rattle.verdicts.specs.Rows.{Verdict}
 use Rattle.verdicts.specs.Rows.{refused_at}
 use Rattle.card_model.specs.Layout.{card_length, block_at, table_of, directory_of}
 use Rattle.card_model.specs.Entries.{first_block, size, is_used, entry_at, is_named}

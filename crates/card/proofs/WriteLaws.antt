@@ -8,7 +8,7 @@ use lib.ListN.{length, get_or, take}
 use lib.Seq.{length-take-le, take-take, get_or-take}
 use borrow.Author.Tests.{lt-ltb, le-ltb}
 use Rattle.verdicts.specs.declared.Place.TheVariants.{Whole}
-use Rattle.verdicts.specs.declared.Verdict.{Verdict}
+use Rattle.verdicts.specs.Rows.{Verdict}
 use Rattle.verdicts.specs.Rows.{done, refused_at, unless_refused}
 use Rattle.verdicts.proofs.RowLaws.{refused_first, not_refused}
 use Rattle.card_model.specs.Layout.{table_of, entry_place, directory_of}

@@ -1,7 +1,7 @@
 -- Rows 27 and 28, one after the other.
 -- Assumes nothing.
 use Rattle.std.specs.Prelude.{ℕ, List}
-use Rattle.verdicts.specs.declared.Verdict.{Verdict}
+use Rattle.verdicts.specs.Rows.{Verdict}
 use Rattle.verdicts.specs.Rows.{unless_refused}
 use Rattle.card_model.specs.Files.{chain_row, sharing_row}
 

@@ -6,7 +6,7 @@ use mathlib.Core.List.{List}
 use borrow.Author.Tests.{eqb-true, eq-eqb, ne_eqb}
 use lib.ListN.{length}
 use Rattle.verdicts.specs.declared.Place.TheVariants.{Whole, Entry}
-use Rattle.verdicts.specs.declared.Verdict.{Verdict}
+use Rattle.verdicts.specs.Rows.{Verdict}
 use Rattle.verdicts.specs.Rows.{refused_at, accepted, unless_refused}
 use Rattle.verdicts.proofs.RowLaws.{refused_first, not_refused, rows-joined}
 use Rattle.card_model.specs.Layout.{card_length, root_of, table_of, directory_of}

@@ -4,7 +4,7 @@ use mathlib.Core.Path.{◌≡◌}
 use mathlib.Core.List.{List}
 use mathlib.Core.Logic.{◌≢◌}
 use borrow.Author.Tests.{ne_eqb}
-use Rattle.verdicts.specs.declared.Verdict.{Verdict}
+use Rattle.verdicts.specs.Rows.{Verdict}
 use Rattle.verdicts.specs.Rows.{done}
 use Rattle.card_model.specs.Layout.{table_of, directory_of}
 use Rattle.card_model.specs.Files as files

@@ -18,7 +18,7 @@ use Rattle.words.proofs.WordLaws.{same_refl, ne_same}
 use Rattle.words.proofs.PartsLaws.{part_at, numbers-read}
 use Rattle.words.proofs.JoinLaws.{none-range}
 use Rattle.verdicts.specs.declared.Place.TheVariants.{Whole}
-use Rattle.verdicts.specs.declared.Verdict.{Verdict}
+use Rattle.verdicts.specs.Rows.{Verdict}
 use Rattle.verdicts.specs.Rows.{done, refused_at, accepted}
 use Rattle.card_model.specs.Layout.{card_length, block_at, table_of, directory_of}
 use Rattle.card_model.specs.Entries.{flag, first_block, name_of, size, is_used, is_named, name_taken}

@@ -14,7 +14,7 @@ use Rattle.words.proofs.SearchLaws.{lowest-none, lowest-some}
 use Rattle.words.proofs.WordLaws.{eq-same, ne_same}
 use Rattle.verdicts.specs.declared.Place.{Place}
 use Rattle.verdicts.specs.declared.Place.TheVariants.{Whole, Block, Entry}
-use Rattle.verdicts.specs.declared.Verdict.{Verdict}
+use Rattle.verdicts.specs.Rows.{Verdict}
 use Rattle.verdicts.specs.Rows.{place_number, done, refused_at, row_at, row_over, unless_refused}
 use Rattle.card_model.specs.Layout.{root_of, table_of, directory_of}
 use Rattle.card_model.specs.Table.{magic_row, fields_row, wrong_system, wrong_hidden, wrong_user, system_row, hidden_row, user_row}

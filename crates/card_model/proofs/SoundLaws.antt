@@ -13,7 +13,7 @@ use Rattle.words.proofs.SearchLaws.{lowest-none, lowest-nothing}
 use Rattle.words.proofs.WordLaws.{same-eq, eq-same}
 use Rattle.verdicts.specs.declared.Place.{Place}
 use Rattle.verdicts.specs.declared.Place.TheVariants.{Block, Entry}
-use Rattle.verdicts.specs.declared.Verdict.{Verdict}
+use Rattle.verdicts.specs.Rows.{Verdict}
 use Rattle.verdicts.specs.Rows.{done, accepted, row_at, row_over, unless_refused}
 use Rattle.card_model.specs.Layout.{root_of, table_of, directory_of}
 use Rattle.card_model.specs.Table.{magic_row, fields_row, wrong_system, wrong_hidden, wrong_user, system_row, hidden_row, user_row}

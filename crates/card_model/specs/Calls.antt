@@ -5,11 +5,11 @@ use Rattle.std.specs.Prelude.{ℕ, ◌-◌, not, cond, ◌||◌, List, eqb, leb,
 use Rattle.std.specs.Prelude.{Option, None, Some}
 use Rattle.words.specs.Search.{lowest}
 use Rattle.verdicts.specs.declared.Place.TheVariants.{Whole}
-use Rattle.verdicts.specs.declared.Verdict.{Verdict}
+use Rattle.verdicts.specs.Rows.{Verdict}
 use Rattle.verdicts.specs.Rows.{done, refused_at, accepted, row_at, unless_refused}
-use Rattle.card_model.specs.declared.Checked.{Checked}
+use Rattle.card_model.specs.Answers.{Checked}
 use Rattle.card_model.specs.declared.CopyProtection.TheVariants.{Copyable}
-use Rattle.card_model.specs.declared.Listing.{Listing}
+use Rattle.card_model.specs.Answers.{Listing}
 use Rattle.card_model.specs.Layout.{card_length, block_at, root_of, table_of, directory_of}
 use Rattle.card_model.specs.Table.{magic_row, fields_row, system_row, hidden_row, user_row}
 use Rattle.card_model.specs.Entries as entry

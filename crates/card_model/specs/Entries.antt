@@ -6,7 +6,7 @@ use Rattle.words.specs.Lists.{any_of, numbers_from}
 use Rattle.words.specs.Search.{lowest}
 use Rattle.words.specs.Words.{word, same_bytes}
 use Rattle.verdicts.specs.declared.Place.TheVariants.{Entry}
-use Rattle.verdicts.specs.declared.Verdict.{Verdict}
+use Rattle.verdicts.specs.Rows.{Verdict}
 use Rattle.verdicts.specs.Rows.{row_over}
 use Rattle.card_model.specs.declared.CopyProtection.{CopyProtection}
 use Rattle.card_model.specs.declared.CopyProtection.TheVariants.{Protected, Copyable}

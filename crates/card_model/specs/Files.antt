@@ -5,7 +5,7 @@ use Rattle.std.specs.Prelude.{Option, None, Some, option_map}
 use Rattle.words.specs.Lists.{keep, any_of, has, concat, is_some, numbers_from}
 use Rattle.words.specs.Search.{lowest}
 use Rattle.verdicts.specs.declared.Place.TheVariants.{Entry}
-use Rattle.verdicts.specs.declared.Verdict.{Verdict}
+use Rattle.verdicts.specs.Rows.{Verdict}
 use Rattle.verdicts.specs.Rows.{row_over}
 use Rattle.card_model.specs.declared.Link.{Link}
 use Rattle.card_model.specs.declared.Link.TheVariants.{Free, Damaged, Last, Next, Bad}

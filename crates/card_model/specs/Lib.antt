@@ -2,7 +2,9 @@ pub mod Layout
 pub mod Table
 pub mod Entries
 pub mod Files
+pub mod Answers
 pub mod Calls
+pub mod Results
 pub mod Examples
 pub mod Sound
 pub mod Theorems

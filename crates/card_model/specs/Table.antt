@@ -6,7 +6,7 @@ use Rattle.words.specs.Lists.{keep, numbers_from}
 use Rattle.words.specs.Search.{lowest}
 use Rattle.words.specs.Words.{word, same_bytes}
 use Rattle.verdicts.specs.declared.Place.TheVariants.{Block}
-use Rattle.verdicts.specs.declared.Verdict.{Verdict}
+use Rattle.verdicts.specs.Rows.{Verdict}
 use Rattle.verdicts.specs.Rows.{row_at, row_over}
 use Rattle.card_model.specs.Layout.{table_of}
 use Rattle.card_model.specs.declared.Link.{Link}

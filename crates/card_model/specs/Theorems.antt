@@ -6,10 +6,10 @@ use Rattle.words.specs.Lists.{keep, has, Distinct, concat, numbers_from}
 use Rattle.words.specs.Words.{word}
 use Rattle.verdicts.specs.declared.Place.{Place}
 use Rattle.verdicts.specs.declared.Place.TheVariants.{Whole, Block, Entry}
-use Rattle.verdicts.specs.declared.Verdict.{Verdict}
+use Rattle.verdicts.specs.Rows.{Verdict}
 use Rattle.verdicts.specs.Rows.{done, place_number, refused_at}
 use Rattle.card_model.specs.declared.CopyProtection.TheVariants.{Protected, Copyable}
-use Rattle.card_model.specs.declared.Listing.{Listing}
+use Rattle.card_model.specs.Answers.{Listing}
 use Rattle.card_model.specs.Layout.{card_length, root_of, table_of, entry_place, directory_of}
 use Rattle.card_model.specs.Table.{fat_entry, is_free, is_damaged, count_blocks, system_entry}
 use Rattle.card_model.specs.Entries.{kind, flag, is_protected, protection_of, first_block, name_of, size, header_offset, is_used, is_data, is_game}

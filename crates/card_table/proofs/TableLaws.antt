@@ -14,7 +14,7 @@ use Rattle.words.specs.Words.{word}
 use Rattle.words.proofs.JoinLaws.{none-range}
 use Rattle.words.proofs.PartsLaws.{numbers-length}
 use Rattle.words.proofs.SearchLaws.{lowest-nothing}
-use Rattle.verdicts.specs.declared.Verdict.{Verdict}
+use Rattle.verdicts.specs.Rows.{Verdict}
 use Rattle.verdicts.specs.declared.Place.TheVariants.{Block}
 use Rattle.verdicts.specs.Rows.{done, refused_at, unless_refused}
 use Rattle.verdicts.proofs.RowLaws.{refused_first, not_refused, rows-joined}

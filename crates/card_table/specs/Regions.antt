@@ -1,7 +1,7 @@
 -- The tests of rows 23 to 25, by region, and these rows one after the other.
 -- Assumes nothing.
 use Rattle.std.specs.Prelude.{ℕ, ◌≤◌, Bool, List}
-use Rattle.verdicts.specs.declared.Verdict.{Verdict}
+use Rattle.verdicts.specs.Rows.{Verdict}
 use Rattle.verdicts.specs.Rows.{unless_refused}
 use Rattle.card_model.specs.Table.{wrong_system, wrong_hidden, wrong_user, system_row, hidden_row, user_row}
 use Rattle.card_table.specs.declared.Region.{Region}

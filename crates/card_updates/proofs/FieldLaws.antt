@@ -9,7 +9,7 @@ use lib.Seq.{drop-drop}
 use Rattle.words.specs.Lists.{any_of, concat, has, numbers_from, keep}
 use Rattle.words.specs.Search.{lowest}
 use Rattle.words.specs.Words.{word}
-use Rattle.card_model.specs.declared.Listing.{Listing}
+use Rattle.card_model.specs.Answers.{Listing}
 use Rattle.card_model.specs.Table.{link_at, free_or_damaged}
 use Rattle.card_model.specs.Entries.{kind, first_block, name_of, time_of, size, header_offset, is_used, is_data, is_game, entry_at}
 use Rattle.card_model.specs.Entries.{wrong_kind, wrong_first, wrong_size, wrong_offset, wrong_entry, entry_row, is_named, name_taken, name_row}

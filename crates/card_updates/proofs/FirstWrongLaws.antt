@@ -15,7 +15,7 @@ use Rattle.words.proofs.ListLaws.{All}
 use Rattle.words.proofs.SearchLaws.{lowest-none, lowest-some}
 use Rattle.verdicts.specs.declared.Place.{Place}
 use Rattle.verdicts.specs.declared.Place.TheVariants.{Whole, Entry}
-use Rattle.verdicts.specs.declared.Verdict.{Verdict}
+use Rattle.verdicts.specs.Rows.{Verdict}
 use Rattle.verdicts.specs.Rows.{place_number, done, refused_at, accepted, row_at, row_over, unless_refused}
 use Rattle.card_model.specs.Calls.{verdict_of}
 use Rattle.card_model.specs.Sound.{SoundCard}

@@ -18,7 +18,7 @@ use Rattle.words.proofs.SearchLaws.{lowest-none}
 use Rattle.words.proofs.WordLaws.{eq-same, same-eq}
 use Rattle.verdicts.specs.declared.Place.{Place}
 use Rattle.verdicts.specs.declared.Place.TheVariants.{Whole, Entry}
-use Rattle.verdicts.specs.declared.Verdict.{Verdict}
+use Rattle.verdicts.specs.Rows.{Verdict}
 use Rattle.verdicts.specs.Rows.{place_number, done, accepted, row_at, row_over, unless_refused}
 use Rattle.verdicts.proofs.RowLaws.{rows-joined}
 use Rattle.card_model.specs.declared.Link.TheVariants.{Free, Damaged, Last, Next, Bad}

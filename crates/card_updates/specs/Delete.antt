@@ -4,7 +4,7 @@ use Rattle.std.specs.Prelude.{ℕ, not, cond, List, [], ◌∷◌, eqb, length, 
 use Rattle.std.specs.Prelude.{Option, None, Some}
 use Rattle.words.specs.Lists.{is_some}
 use Rattle.verdicts.specs.declared.Place.TheVariants.{Whole}
-use Rattle.verdicts.specs.declared.Verdict.{Verdict}
+use Rattle.verdicts.specs.Rows.{Verdict}
 use Rattle.verdicts.specs.Rows.{accepted, row_at, unless_refused}
 use Rattle.card_model.specs.Layout.{entry_place, directory_of}
 use Rattle.card_model.specs.Calls.{verdict_of, entry_named}

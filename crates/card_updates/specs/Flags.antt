@@ -5,7 +5,7 @@ use Rattle.std.specs.Prelude.{ℕ, ◌+◌, ◌%◌, ◌≤◌, ◌<◌, ◌≡�
 use Rattle.std.specs.Prelude.{Some}
 use Rattle.verdicts.specs.Rows.{done}
 use Rattle.card_model.specs.declared.CopyProtection.TheVariants.{Protected}
-use Rattle.card_model.specs.declared.Listing.{Listing}
+use Rattle.card_model.specs.Answers.{Listing}
 use Rattle.card_model.specs.Layout.{card_length, entry_place, directory_of}
 use Rattle.card_model.specs.Entries.{flag}
 use Rattle.card_model.specs.Calls.{check_of, list_of, read_verdict, read_buffer}

@@ -7,7 +7,7 @@ use Rattle.words.specs.Lists.{keep}
 use Rattle.words.specs.Search.{lowest}
 use Rattle.words.specs.Words.{word_bytes}
 use Rattle.verdicts.specs.declared.Place.TheVariants.{Whole, Entry}
-use Rattle.verdicts.specs.declared.Verdict.{Verdict}
+use Rattle.verdicts.specs.Rows.{Verdict}
 use Rattle.verdicts.specs.Rows.{accepted, row_at, row_over, unless_refused}
 use Rattle.card_model.specs.Layout.{block_place, table_of, entry_place, directory_of}
 use Rattle.card_model.specs.Table.{link_at, is_free}

@@ -1,3 +1,4 @@
+pub mod ErrorLaws
 pub mod MeasureLaws
 pub mod BitLaws
 pub mod BitmapLaws

@@ -6,13 +6,13 @@ use Rattle.std.specs.Prelude.{Option, None, Some}
 use Rattle.words.specs.Lists.{concat, numbers_from}
 use Rattle.verdicts.specs.declared.Place.{Place}
 use Rattle.verdicts.specs.declared.Place.TheVariants.{Whole, Block, Entry}
-use Rattle.verdicts.specs.declared.Verdict.{Verdict}
+use Rattle.verdicts.specs.Rows.{Verdict}
 use Rattle.verdicts.specs.Rows.{unless_refused}
 use Rattle.card_model.specs.declared.CopyProtection.{CopyProtection}
 use Rattle.card_model.specs.declared.CopyProtection.TheVariants.{Protected, Copyable}
 use Rattle.card_model.specs.declared.Link.{Link}
 use Rattle.card_model.specs.declared.Link.TheVariants.{Free, Damaged, Last, Next, Bad}
-use Rattle.card_model.specs.declared.Listing.{Listing}
+use Rattle.card_model.specs.Answers.{Listing}
 use Rattle.card_model.specs.Layout.{card_length, block_at, fat_place, table_of, entry_block, entry_byte, entry_place, directory_of}
 use Rattle.card_model.specs.Table.{magic_row, fields_row, link_of}
 use Rattle.card_model.specs.Entries.{protection_of, wrong_entry, entry_row}

@@ -4,7 +4,16 @@ use Rattle.std.specs.Prelude.{ℕ, Bool, cond, eqb}
 use Rattle.std.specs.Prelude.{Option, None, Some}
 use Rattle.verdicts.specs.declared.Place.{Place}
 use Rattle.verdicts.specs.declared.Place.TheVariants.{Whole, Block, Entry}
-use Rattle.verdicts.specs.declared.Verdict.{Verdict}
+use Rattle.verdicts.specs.declared.Rule.{Rule}
+use Rattle.verdicts.specs.declared.Rule.TheVariants.{CardLength, RootMagic, RootFields, SystemEntry, HiddenEntry, UserEntry, DirectoryEntry, Chain, SharedBlock, SameName, Game, NoFile, BlockIndex, Lengths, NoRoom}
+use Rattle.verdicts.specs.declared.CardError.{CardError}
+use Rattle.std.specs.declared.result.Result.{Result}
+use Rattle.std.specs.declared.result.Result.TheVariants.{Ok, Err}
+
+-- A number of the table and its place; 0 and the whole card where the call is done.
+pub record Verdict : Type 0 where
+  pub number : ℕ
+  pub place : Place
 
 -- The number of the block or of the entry; 0 for the whole card.
 abbrev pub place_number : Place → ℕ
@@ -34,3 +43,31 @@ row_over n p (Some i) = refused_at n (p i)
 -- Rows in their order, "each over the whole card before the next": the later ones decide where this one does not refuse.
 abbrev pub unless_refused : Verdict → Verdict → Verdict
 unless_refused v later = cond (accepted v) later v
+
+-- ---- what the calls answer
+
+-- The number of each row: "Numbers the bench will see", and 34 of document 02's order 1.
+abbrev pub rule_number : Rule → ℕ
+rule_number CardLength = 20
+rule_number RootMagic = 21
+rule_number RootFields = 22
+rule_number SystemEntry = 23
+rule_number HiddenEntry = 24
+rule_number UserEntry = 25
+rule_number DirectoryEntry = 26
+rule_number Chain = 27
+rule_number SharedBlock = 28
+rule_number SameName = 29
+rule_number Game = 30
+rule_number NoFile = 31
+rule_number BlockIndex = 32
+rule_number Lengths = 33
+rule_number NoRoom = 34
+
+abbrev pub error_verdict : CardError → Verdict
+error_verdict e = refused_at (rule_number e.rule) e.place
+
+-- Done, whatever value comes with it, or the refusal.
+abbrev pub result_verdict : {A : Type 0} → Result A CardError → Verdict
+result_verdict (Ok x) = done
+result_verdict (Err e) = error_verdict e

@@ -3,7 +3,7 @@ use Prim.Native.Nat.{ℕ}
 use mathlib.Core.Path.{◌≡◌, sym, ◌∙◌}
 use mathlib.Core.List.{List}
 use borrow.Author.Tests.{eq-eqb}
-use Rattle.verdicts.specs.declared.Verdict.{Verdict}
+use Rattle.verdicts.specs.Rows.{Verdict}
 use Rattle.card_model.specs.Calls.{verdict_of, read_verdict, read_buffer}
 use Rattle.card_directory.proofs.DirectoryLaws.{found_some, found_none}
 use Rattle.card.proofs.AnswerLaws.{new-arrays, read-refused, read-passed}

@@ -6,7 +6,7 @@ use borrow.Author.Tests.{eq-eqb}
 use Rattle.words.proofs.ListLaws.{all-at}
 use mathlib.Core.List.{List}
 use Rattle.std.specs.Prelude.{Some}
-use Rattle.verdicts.specs.declared.Verdict.{Verdict}
+use Rattle.verdicts.specs.Rows.{Verdict}
 use Rattle.verdicts.specs.Rows.{done, unless_refused}
 use Rattle.card_model.specs.Layout.{table_of, entry_place, directory_of}
 use Rattle.card_model.specs.Calls.{verdict_of}

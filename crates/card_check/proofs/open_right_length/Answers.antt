@@ -4,7 +4,7 @@ use mathlib.Core.Path.{◌≡◌, sym, ap, ◌∙◌}
 use mathlib.Core.List.{List}
 use lib.ListN.{length}
 use borrow.Author.Tests.{eq-eqb}
-use Rattle.verdicts.specs.declared.Verdict.{Verdict}
+use Rattle.verdicts.specs.Rows.{Verdict}
 use Rattle.verdicts.specs.Rows.{accepted, unless_refused}
 use Rattle.card_model.specs.Layout.{card_length, root_of, table_of, directory_of}
 use Rattle.card_model.specs.Entries.{entry_row, name_row}
