@@ -1,4 +1,3 @@
-pub mod FoundLaws
 pub mod RunLaws
 pub mod BitReads
 pub mod BitWrites

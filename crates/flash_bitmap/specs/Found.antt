@@ -1,16 +1,10 @@
--- The answer of a search for a physical block, and what is searched for in a bitmap. Assumes nothing.
+-- What is searched for in a bitmap. Assumes nothing.
 use Rattle.std.specs.Prelude.{ℕ, ◌-◌, ◌/◌, ◌%◌, Bool, not, List, eqb, length}
 use Rattle.std.specs.Prelude.{Option, None, Some}
 use Rattle.words.specs.Search.{lowest}
 use Rattle.flash_model.specs.Measures.{first_bitmap}
 use Rattle.flash_model.specs.Bitmap.{bit_weight, bit_of}
 use Rattle.flash_model.specs.Partition.{bitmap_of, allocated}
-use Rattle.flash_bitmap.specs.declared.Found.{Found}
-use Rattle.flash_bitmap.specs.declared.Found.TheVariants.{Hit, Nothing}
-
-abbrev pub as_found : Option ℕ → Found
-as_found None = Nothing
-as_found (Some k) = Hit k
 
 -- The lowest allocated user block from `from` on.
 unfoldable pub lowest_allocated : List ℕ → ℕ → Option ℕ

@@ -3,31 +3,23 @@
 // The bitmap of an image: which user blocks are allocated.
 mod runs;
 
-ghost use Rattle.std.specs.Prelude.{◌≡◌, true, false, ◌+◌, ◌*◌, ◌/◌, ◌≤◌, ◌<◌, length};
-ghost use Rattle.flash_model.specs.Measures.{legal_size, first_bitmap, capacity};
+ghost use Rattle.std.specs.Prelude.{◌≡◌, false, ◌+◌, ◌*◌, ◌/◌, ◌≤◌, ◌<◌, length};
+ghost use Rattle.flash_model.specs.Measures.{first_bitmap, capacity};
 ghost use Rattle.flash_model.specs.Bitmap.{bit_byte, bit_place, first_cleared};
 ghost use Rattle.flash_model.specs.Partition.{bitmap_of, allocated, lowest_free};
 ghost use Rattle.flash_model.specs.Update.{bit_cleared, bits_cleared};
 ghost use Rattle.flash_measures.specs.HasMeasures.{HasMeasures};
 ghost use Rattle.flash_bitmap.specs.Blank.{IsBlank};
-ghost use Rattle.flash_bitmap.specs.Found.{as_found, lowest_allocated, lowest_differing};
+ghost use Rattle.flash_bitmap.specs.Found.{lowest_allocated, lowest_differing};
 ghost use Rattle.flash_bitmap.specs.HighBits.{HighestOne, lowest_in_byte};
 
 use flash_measures::Measures;
 use runs::run_end;
 use words::fill;
 
-// A physical block, or none.
-#[derive(Clone, Copy)]
-pub enum Found {
-    Hit(usize),
-    Nothing,
-}
-
 // The byte of the image that has user block k's bit.
 fn bit_byte(m: Measures, k: usize) -> usize
-    requires size_value { legal_size m.size ≡ true }
-    requires le_k { (1 ≤ k) × (k ≤ capacity m.size) }
+    requires { (1 ≤ k) × (k ≤ capacity m.size) }
     ensures { result ≡ first_bitmap m.size * 64 + bit_byte k }
 {
     let first = m.first_bitmap();
@@ -63,52 +55,52 @@ fn highest_one(byte: u8) -> u32
 
 // The lowest block before `end` whose bit is 1, in a byte that begins with the bit of block `first`. Where `end` is M, the bits past
 // the last user block are ignored.
-fn lowest_in_byte(byte: u8, first: usize, end: usize) -> Found
+fn lowest_in_byte(byte: u8, first: usize, end: usize) -> Option<usize>
     requires { (0 < byte) × (first ≤ end) }
-    ensures { result ≡ as_found (lowest_in_byte byte first end) }
+    ensures { result ≡ lowest_in_byte byte first end }
 {
     let place = highest_one(byte) as usize;
     if end - first <= place {
-        return Found::Nothing;
+        return None;
     }
-    Found::Hit(first + place)
+    Some(first + place)
 }
 
 // From byte i of the bitmap on, the lowest user block whose bit differs from that of `byte` at its place: a free one for 0, an
 // allocated one for FF. Bytes equal to `byte` are passed.
-fn lowest_differing(image: &[u8], m: Measures, i: usize, byte: u8) -> Found
+fn lowest_differing(image: &[u8], m: Measures, i: usize, byte: u8) -> Option<usize>
     requires has_measures { HasMeasures image.now m.size }
     requires i_bound { i ≤ (capacity m.size + 7) / 8 }
-    ensures { result ≡ as_found (lowest_differing image.now byte (i * 8 + 1)) }
+    ensures { result ≡ lowest_differing image.now byte (i * 8 + 1) }
 {
     let end = m.first_bitmap();
     let bitmap = m.start(end);
     let bits_end = bitmap + (m.capacity() + 7) / 8;
     let at = run_end(image, bitmap + i, bits_end, byte);
     if at == bits_end {
-        return Found::Nothing;
+        return None;
     }
     lowest_in_byte(image[at] ^ byte, (at - bitmap) * 8 + 1, end)
 }
 
 // The lowest free user block: from byte 0 on, the first bit that is not 0.
-pub fn lowest_free(image: &[u8], m: Measures) -> Found
+pub fn lowest_free(image: &[u8], m: Measures) -> Option<usize>
     requires { HasMeasures image.now m.size }
-    ensures { result ≡ as_found (lowest_free image.now) }
+    ensures { result ≡ lowest_free image.now }
 {
     lowest_differing(image, m, 0, 0)
 }
 
 // The lowest allocated user block from `from` on: the first bit there that is 0. In `rest` it is the first 1, and the bits before
 // that of `from` are shifted out.
-pub fn lowest_allocated(image: &[u8], m: Measures, from: usize) -> Found
+pub fn lowest_allocated(image: &[u8], m: Measures, from: usize) -> Option<usize>
     requires has_measures { HasMeasures image.now m.size }
     requires le_from { 1 ≤ from }
-    ensures { result ≡ as_found (lowest_allocated image.now from) }
+    ensures { result ≡ lowest_allocated image.now from }
 {
     let end = m.first_bitmap();
     if end <= from {
-        return Found::Nothing;
+        return None;
     }
     let rest = (image[bit_byte(m, from)] ^ 255) << ((from - 1) % 8);
     if rest != 0 {

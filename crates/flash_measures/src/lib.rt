@@ -1,42 +1,48 @@
 #![tactic(auto)]
 
 // The measures of a partition: one value with its own operations.
-ghost use Rattle.std.specs.Prelude.{◌≡◌, true, ◌*◌, ◌≤◌};
+ghost use Rattle.std.specs.Prelude.{◌≡◌, true, ◌*◌, ◌≤◌, is_ok, MatchResult};
 ghost use Rattle.flash_model.specs.Measures as model;
+ghost use Rattle.flash_model.specs.declared.FlashError.TheVariants.{ImageLength};
+
+use flash_model::FlashError;
 
 pub const BLOCK_BYTES: usize = 64;
 
 // How many logical numbers the longest partition has.
 pub const NUMBERS: usize = 1021;
 
-// Whether this is one of the three lengths that a partition may have.
+// The three lengths that a partition may have.
 pub fn legal_size(len: usize) -> bool
     ensures { result ≡ model.legal_size len }
 {
-    if len == 16384 {
-        return true;
-    }
-    if len == 32768 {
-        return true;
-    }
-    len == 65536
+    matches!(len, 16384 | 32768 | 65536)
 }
 
+// The length of a partition, which tells all other measures.
 #[derive(Clone, Copy)]
 pub struct Measures {
     pub size: usize,
+    ghost legal: { model.legal_size size ≡ true },
+}
+
+// No other length has measures.
+impl TryFrom<usize> for Measures {
+    type Error = FlashError;
+
+    ghost try_from_gives = { λ len r. (is_ok r ≡ model.legal_size len) × MatchResult r (λ m. m.size ≡ len) (λ e. e ≡ ImageLength) };
+
+    fn try_from(len: usize) -> Result<Self, FlashError> {
+        if !legal_size(len) {
+            return Err(FlashError::ImageLength);
+        }
+        Ok(Measures { size: len })
+    }
 }
 
 impl Measures {
-    pub fn of(len: usize) -> Measures
-        ensures { result.size ≡ len }
-    {
-        Measures { size: len }
-    }
-
     // M, the first bitmap block.
     pub fn first_bitmap(self) -> usize
-        requires { model.legal_size self.size ≡ true }
         ensures { result ≡ model.first_bitmap self.size }
     {
         self.size / BLOCK_BYTES - (self.size + 32767) / 32768
@@ -44,7 +50,6 @@ impl Measures {
 
     // How many user blocks there are.
     pub fn capacity(self) -> usize
-        requires { model.legal_size self.size ≡ true }
         ensures { result ≡ model.capacity self.size }
     {
         self.first_bitmap() - 1
@@ -52,8 +57,7 @@ impl Measures {
 
     // Where physical block k begins.
     pub fn start(self, k: usize) -> usize
-        requires size_value { model.legal_size self.size ≡ true }
-        requires k_bound { k ≤ model.first_bitmap self.size }
+        requires { k ≤ model.first_bitmap self.size }
         ensures { result ≡ k * 64 }
     {
         k * BLOCK_BYTES
@@ -61,7 +65,6 @@ impl Measures {
 
     // Whether a logical number is one of this partition's.
     pub fn legal_number(self, number: usize) -> bool
-        requires { model.legal_size self.size ≡ true }
         ensures { result ≡ model.legal_number self.size number }
     {
         number < self.capacity()

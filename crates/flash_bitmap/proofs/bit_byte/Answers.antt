@@ -7,8 +7,8 @@ use Rattle.flash_bitmap.proofs.bit_byte.Goals as goal
 pub overflow_add-result : goal.overflow_add-result
 unfolding bit_byte
 overflow_add-result c =
-    let m = measures-of c.args.m.size c.requires.size_value in
-    omega (arith, byte_inside c.args.m.size c.args.k m c.requires.le_k.0 c.requires.le_k.1, m.bounded, c.start.ensures, c.first_bitmap-first.ensures)
+    let m = measures-of c.args.m.size c.args.m.legal in
+    omega (arith, byte_inside c.args.m.size c.args.k m c.requires.0 c.requires.1, m.bounded, c.start.ensures, c.first_bitmap-first.ensures)
 
 pub returns : goal.returns
 unfolding bit_byte

@@ -5,19 +5,19 @@ use Rattle.words.proofs.LoopLaws.{lowest-end}
 use Rattle.flash_model.specs.Measures.{first_bitmap, capacity}
 use Rattle.flash_model.specs.Partition.{allocated}
 use Rattle.flash_measures.proofs.WithinLaws.{measures-known}
-use Rattle.flash_bitmap.specs.Found.{as_found, lowest_allocated}
+use Rattle.flash_bitmap.specs.Found.{lowest_allocated}
 use Rattle.flash_bitmap.proofs.BitReads.{at-inside}
 use Rattle.flash_bitmap.proofs.DifferingLaws.{allocated-in-byte, allocated-behind}
 use Rattle.flash_bitmap.proofs.lowest_allocated.Goals as goal
 
 pub returns-then-end-from : goal.returns-then-end-from
 unfolding lowest_allocated
-returns-then-end-from c = sym (ap as_found (lowest-end (allocated c.args.image.now) c.args.from (first_bitmap _) (omega (arith, c.if-end-from.true, c.first_bitmap-end.ensures, ap first_bitmap c.requires.has_measures.has_size))))
+returns-then-end-from c = sym ((lowest-end (allocated c.args.image.now) c.args.from (first_bitmap _) (omega (arith, c.if-end-from.true, c.first_bitmap-end.ensures, ap first_bitmap c.requires.has_measures.has_size))))
 
 pub bit_byte-requires : goal.bit_byte-requires
 bit_byte-requires c =
     let is-user : c.args.from ≤ capacity c.args.m.size = omega (arith, c.if-end-from.false, c.first_bitmap-end.ensures, (measures-known c.requires.has_measures).first_bitmap_lem) in
-    record { size_value = c.requires.has_measures.is_legal; le_k = (c.requires.le_from, is-user) }
+    (c.requires.le_from, is-user)
 
 pub bounds-image-bit_byte : goal.bounds-image-bit_byte
 bounds-image-bit_byte c =
@@ -27,7 +27,7 @@ bounds-image-bit_byte c =
 pub returns-then-rest-ne0 : goal.returns-then-rest-ne0
 returns-then-rest-ne0 c =
     c.lowest_in_byte.ensures
-    ∙ sym (ap as_found (allocated-in-byte c.requires.has_measures c.args.from _ c.first_bitmap-end.ensures c.bit_byte.ensures refl c.requires.le_from (omega (arith, c.if-rest-ne0.true))))
+    ∙ sym ((allocated-in-byte c.requires.has_measures c.args.from _ c.first_bitmap-end.ensures c.bit_byte.ensures refl c.requires.le_from (omega (arith, c.if-rest-ne0.true))))
 
 pub lowest_differing-requires : goal.lowest_differing-requires
 lowest_differing-requires c =
@@ -37,4 +37,4 @@ lowest_differing-requires c =
 pub returns : goal.returns
 returns c =
     c.lowest_differing.ensures
-    ∙ sym (ap as_found (allocated-behind c.requires.has_measures c.args.from _ c.first_bitmap-end.ensures c.bit_byte.ensures refl c.requires.le_from c.if-rest-ne0.false))
+    ∙ sym ((allocated-behind c.requires.has_measures c.args.from _ c.first_bitmap-end.ensures c.bit_byte.ensures refl c.requires.le_from c.if-rest-ne0.false))

@@ -8,7 +8,6 @@ use Rattle.flash_model.specs.Measures.{first_bitmap, capacity}
 use Rattle.flash_measures.specs.HasMeasures.{HasMeasures}
 use Rattle.flash_measures.proofs.WithinLaws.{measures-known}
 use Rattle.flash_bitmap.specs.EqualRun.{WholeRun}
-use Rattle.flash_bitmap.specs.Found.{as_found}
 use Rattle.flash_bitmap.proofs.BitReads.{bytes_inside}
 use Rattle.flash_bitmap.proofs.HighBitLaws.{xor-pos}
 use Rattle.flash_bitmap.proofs.DifferingLaws.{run-to-end, run-to-other}
@@ -42,7 +41,7 @@ run_end-at-requires c =
 
 pub returns-then-at-bits_end : goal.returns-then-at-bits_end
 returns-then-at-bits_end c =
-    sym (ap as_found (run-to-end c.requires.has_measures c.first_bitmap-end.ensures c.start-bitmap.ensures c.capacity.ensures
+    sym ((run-to-end c.requires.has_measures c.first_bitmap-end.ensures c.start-bitmap.ensures c.capacity.ensures
     c.args.byte c.args.i c.run_end-at.result c.run_end-at.ensures.run c.if-at-bits_end.true))
 
 pub bounds-image-at : goal.bounds-image-at
@@ -58,6 +57,6 @@ lowest_in_byte-requires c = (
 pub returns : goal.returns
 returns c =
     c.lowest_in_byte.ensures
-    ∙ sym (ap as_found (run-to-other c.requires.has_measures c.first_bitmap-end.ensures c.start-bitmap.ensures c.capacity.ensures
+    ∙ sym ((run-to-other c.requires.has_measures c.first_bitmap-end.ensures c.start-bitmap.ensures c.capacity.ensures
     c.args.byte c.args.i c.run_end-at.result c.run_end-at.ensures.run
     (other c.run_end-at.ensures c.if-at-bits_end.false) (xor_lt 8 _ _ (c.shared_slice_known-2-1.given _).fits c.ranges.byte.fits)))

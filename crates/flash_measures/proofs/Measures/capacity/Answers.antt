@@ -6,7 +6,7 @@ use Rattle.flash_model.proofs.MeasureLaws.{measures-of}
 use Rattle.flash_measures.proofs.Measures.capacity.Goals as goal
 
 pub overflow_sub-result : goal.overflow_sub-result
-overflow_sub-result c = omega (arith, (measures-of _ c.requires).first_bitmap_lem, c.first_bitmap.ensures)
+overflow_sub-result c = omega (arith, (measures-of _ c.args.self.legal).first_bitmap_lem, c.first_bitmap.ensures)
 
 pub returns : goal.returns
 unfolding capacity

@@ -5,11 +5,11 @@ use Rattle.flash_model.proofs.MeasureLaws.{measures-of}
 use Rattle.flash_measures.proofs.Measures.first_bitmap.Goals as goal
 
 pub overflow_add-result : goal.overflow_add-result
-overflow_add-result c = omega (arith, (measures-of _ c.requires).bounded)
+overflow_add-result c = omega (arith, (measures-of _ c.args.self.legal).bounded)
 
 pub overflow_sub-result : goal.overflow_sub-result
 unfolding blocks bitmap_blocks first_bitmap
-overflow_sub-result c = omega (arith, (measures-of _ c.requires).first_bitmap_lem)
+overflow_sub-result c = omega (arith, (measures-of _ c.args.self.legal).first_bitmap_lem)
 
 pub returns : goal.returns
 unfolding blocks bitmap_blocks first_bitmap

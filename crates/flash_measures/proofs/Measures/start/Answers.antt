@@ -4,5 +4,5 @@ use Rattle.flash_measures.proofs.Measures.start.Goals as goal
 
 pub overflow_mul-result : goal.overflow_mul-result
 overflow_mul-result c =
-    let m = measures-of _ c.requires.size_value in
-    omega (arith, c.requires.k_bound, m.first_bitmap_lem, m.whole, m.bounded)
+    let m = measures-of _ c.args.self.legal in
+    omega (arith, c.requires, m.first_bitmap_lem, m.whole, m.bounded)
