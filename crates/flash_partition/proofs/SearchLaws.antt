@@ -11,27 +11,26 @@ use Rattle.words.proofs.LoopLaws.{highest-here, highest-next, highest-end}
 use Rattle.flash_model.specs.Measures.{legal_number}
 use Rattle.flash_model.specs.UserBlock.{number, right_checksum}
 use Rattle.flash_model.specs.Partition.{block_at, copy_at, holder}
-use Rattle.flash_bitmap.specs.Found.{as_found}
-use Rattle.flash_bitmap.specs.declared.Found.TheVariants.{Hit, Nothing}
+use Rattle.std.specs.Prelude.{Some, None}
 use Rattle.flash_partition.specs.Usable.{Usable}
-use Rattle.flash_partition.specs.declared.opening.OpenedLog.{OpenedLog}
+use Rattle.flash_partition.specs.declared.partition.OpenedLog.{OpenedLog}
 use Rattle.flash_partition.specs.Search.{found_up_to, any_numbered}
 use Rattle.flash_partition.proofs.PartLaws.{number_is}
 use Rattle.flash_partition.proofs.UsableLaws.{holder-some}
 
 pub from-used : {image : List ℕ} {log : OpenedLog} → Usable image log → (n : ℕ) → legal_number log.m.size n ≡ true
-    → as_found (holder image n) ≡ found_up_to image n log.used
+    → holder image n ≡ found_up_to image n log.used
 unfolding found_up_to
-from-used u n legal = ap as_found (holder-some u n legal)
+from-used u n legal = (holder-some u n legal)
 
 module _ (image : List ℕ) (n k : ℕ) where
-  pub found_here : 0 < k → copy_at image n k ≡ true → found_up_to image n k ≡ Hit k
+  pub found_here : 0 < k → copy_at image n k ≡ true → found_up_to image n k ≡ Some k
   unfolding found_up_to
-  found_here h e = ap as_found (highest-here (copy_at image n) k h e)
+  found_here h e = (highest-here (copy_at image n) k h e)
 
   pub passed : 0 < k → copy_at image n k ≡ false → found_up_to image n k ≡ found_up_to image n (k - 1)
   unfolding found_up_to
-  passed h e = ap as_found (highest-next (copy_at image n) k h e)
+  passed h e = (highest-next (copy_at image n) k h e)
 
   pub has-number-test : (part : List ℕ) → part ≡ block_at image k → (w : ℕ) → w ≡ word part 0 → {t : Bool} → eqb w n ≡ t
       → eqb (number (block_at image k)) n ≡ t
@@ -41,9 +40,9 @@ module _ (image : List ℕ) (n k : ℕ) where
   pub other_number : (part : List ℕ) → part ≡ block_at image k → (w : ℕ) → w ≡ word part 0 → eqb w n ≡ false → copy_at image n k ≡ false
   other_number part p w e f = ap (λ (b : Bool). b && right_checksum (block_at image k)) (has-number-test part p w e f)
 
-  pub none_left : k ≤ 0 → found_up_to image n k ≡ Nothing
+  pub none_left : k ≤ 0 → found_up_to image n k ≡ None
   unfolding found_up_to
-  none_left h = ap as_found (highest-end (copy_at image n) k h)
+  none_left h = (highest-end (copy_at image n) k h)
 
 -- blocks none of which has the number are passed
 pub none-numbered : (image : List ℕ) (n k j : ℕ) → j ≤ k → any_numbered image n k j ≡ false → found_up_to image n k ≡ found_up_to image n (k - j)

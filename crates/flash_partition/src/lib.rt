@@ -3,3 +3,4 @@
 // Reading a partition: its refusals, and where contents are.
 pub mod blocks;
 pub mod opening;
+pub mod partition;

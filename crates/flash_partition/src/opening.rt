@@ -1,61 +1,48 @@
 // What every call on a partition begins with: refusals 1 to 5.
-ghost use Rattle.std.specs.Prelude.{◌≡◌};
-ghost use Rattle.flash_partition.specs.OpenAnswers.{header_refusal, opening_of};
+ghost use Rattle.std.specs.Prelude.{◌≡◌, length, IfOk};
+ghost use Rattle.flash_model.specs.Errors.{result_code};
+ghost use Rattle.flash_model.specs.Partition.{refusal};
+ghost use Rattle.flash_partition.specs.OpenAnswers.{header_refusal};
 
-use flash_bitmap::Found;
+use crate::partition::{OpenedLog, Partition};
 use flash_measures::Measures;
-use words::same;
+use flash_model::FlashError;
 
-// What the opening of a sound partition found: its measures, and how many user blocks are allocated.
-#[derive(Clone, Copy)]
-pub struct OpenedLog {
-    pub m: Measures,
-    pub used: usize,
-}
-
-#[derive(Clone, Copy)]
-pub enum Opened {
-    Refused(u8),
-    Ready(OpenedLog),
-}
-
-// Refusals 1 to 4, or 0.
-fn header_refusal(image: &[u8], partition: u8) -> u8
-    ensures { result ≡ header_refusal image.now partition }
+// The measures, where refusals 1 to 4 don't apply.
+fn open_header(image: &[u8], partition: u8) -> Result<Measures, FlashError>
+    ensures code { result_code result ≡ header_refusal image.now partition }
+    ensures measures { IfOk result (λ m. m.size ≡ length image.now) }
 {
-    if !flash_measures::legal_size(image.len()) {
-        return 1;
-    }
-    if !same(&image[0..16], b"KATANA_FLASH____") {
-        return 2;
+    let m = Measures::try_from(image.len())?;
+    if !image.starts_with(b"KATANA_FLASH____") {
+        return Err(FlashError::Magic);
     }
     if image[16] != partition {
-        return 3;
+        return Err(FlashError::PartitionNumber);
     }
     if 1 < image[17] {
-        return 4;
+        return Err(FlashError::Version);
     }
-    0
+    Ok(m)
 }
 
 // The lowest free block, and no allocated one behind it: on a sound partition the allocated blocks are those from 1 to the
 // count. That is tested here and nowhere else.
-pub fn open(image: &[u8], partition: u8) -> Opened
-    ensures { result ≡ opening_of image.now partition }
+pub fn open(image: &[u8], partition: u8) -> Result<Partition<'_>, FlashError>
+    ensures code { result_code result ≡ refusal image.now partition }
+    ensures image { IfOk result (λ p. p.image.now ≡ image.now) }
 {
-    let code = header_refusal(image, partition);
-    if code != 0 {
-        return Opened::Refused(code);
-    }
-    let m = Measures::of(image.len());
-    let Found::Hit(free) = flash_bitmap::lowest_free(image, m) else {
-        return Opened::Ready(OpenedLog {
+    let m = open_header(image, partition)?;
+    let Some(free) = flash_bitmap::lowest_free(image, m) else {
+        let log = OpenedLog {
             m,
             used: m.capacity(),
-        });
+        };
+        return Ok(Partition { image, log });
     };
-    let Found::Nothing = flash_bitmap::lowest_allocated(image, m, free) else {
-        return Opened::Refused(5);
+    let None = flash_bitmap::lowest_allocated(image, m, free) else {
+        return Err(FlashError::Sequence);
     };
-    Opened::Ready(OpenedLog { m, used: free - 1 })
+    let log = OpenedLog { m, used: free - 1 };
+    Ok(Partition { image, log })
 }
