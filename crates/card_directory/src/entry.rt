@@ -4,8 +4,8 @@ ghost use Rattle.words.specs.Words.{same_bytes};
 ghost use Rattle.card_model.specs.Layout.{card_length, entry_place, directory_of};
 ghost use Rattle.card_model.specs.Entries as model;
 
-use card_model::CopyProtection;
-use words::{same, word};
+use card_model::{CopyProtection, LENGTH};
+use words::word;
 
 // Where entry i begins.
 pub fn entry_place(i: usize) -> usize
@@ -16,39 +16,34 @@ pub fn entry_place(i: usize) -> usize
 }
 
 // The bytes of entry i.
-pub fn entry_at(card: &[u8], i: usize) -> &[u8]
-    requires { (length card.now ≡ card_length) × (i < 208) }
-    ensures { (result.now ≡ model.entry_at (directory_of card.now) i) × (length result.now ≡ 32) }
+pub fn entry_at(card: &[u8; LENGTH], i: usize) -> &[u8; 32]
+    requires { i < 208 }
+    ensures { result.now ≡ model.entry_at (directory_of card.now) i }
 {
     let at = entry_place(i);
-    let end = at + 32;
-    &card[at..end]
+    card[at..at + 32].as_array().unwrap()
 }
 
-pub fn is_used(entry: &[u8]) -> bool
-    requires { length entry.now ≡ 32 }
+pub fn is_used(entry: &[u8; 32]) -> bool
     ensures { result ≡ model.is_used entry.now }
 {
     entry[0] != 0
 }
 
-fn is_data(entry: &[u8]) -> bool
-    requires { length entry.now ≡ 32 }
+fn is_data(entry: &[u8; 32]) -> bool
     ensures { result ≡ model.is_data entry.now }
 {
     entry[0] == 0x33
 }
 
-pub fn is_game(entry: &[u8]) -> bool
-    requires { length entry.now ≡ 32 }
+pub fn is_game(entry: &[u8; 32]) -> bool
     ensures { result ≡ model.is_game entry.now }
 {
     entry[0] == 0xCC
 }
 
 // What the copy flag says: FF is protected, anything else may be copied.
-pub fn protection(entry: &[u8]) -> CopyProtection
-    requires { length entry.now ≡ 32 }
+pub fn protection(entry: &[u8; 32]) -> CopyProtection
     ensures { result ≡ model.protection_of entry.now }
 {
     if entry[1] == 0xFF {
@@ -57,66 +52,57 @@ pub fn protection(entry: &[u8]) -> CopyProtection
     CopyProtection::Copyable
 }
 
-pub fn first_block(entry: &[u8]) -> usize
-    requires { length entry.now ≡ 32 }
+pub fn first_block(entry: &[u8; 32]) -> usize
     ensures { result ≡ model.first_block entry.now }
 {
     word(entry, 0x02)
 }
 
-pub fn has_name(entry: &[u8], name: &[u8]) -> bool
-    requires { length entry.now ≡ 32 }
+pub fn has_name(entry: &[u8; 32], name: &[u8]) -> bool
     ensures { result ≡ same_bytes (model.name_of entry.now) name.now }
 {
-    same(&entry[4..16], name)
+    entry[4..16] == *name
 }
 
-pub fn size(entry: &[u8]) -> usize
-    requires { length entry.now ≡ 32 }
+pub fn size(entry: &[u8; 32]) -> usize
     ensures { result ≡ model.size entry.now }
 {
     word(entry, 0x18)
 }
 
-pub fn header_offset(entry: &[u8]) -> usize
-    requires { length entry.now ≡ 32 }
+pub fn header_offset(entry: &[u8; 32]) -> usize
     ensures { result ≡ model.header_offset entry.now }
 {
     word(entry, 0x1a)
 }
 
-fn wrong_kind(entry: &[u8]) -> bool
-    requires { length entry.now ≡ 32 }
+fn wrong_kind(entry: &[u8; 32]) -> bool
     ensures { result ≡ model.wrong_kind entry.now }
 {
     !(is_data(entry) | is_game(entry))
 }
 
-fn wrong_first(entry: &[u8]) -> bool
-    requires { length entry.now ≡ 32 }
+fn wrong_first(entry: &[u8; 32]) -> bool
     ensures { result ≡ model.wrong_first entry.now }
 {
     !(first_block(entry) < 200)
 }
 
-fn wrong_size(entry: &[u8]) -> bool
-    requires { length entry.now ≡ 32 }
+fn wrong_size(entry: &[u8; 32]) -> bool
     ensures { result ≡ model.wrong_size entry.now }
 {
     let blocks = size(entry);
     !((1 <= blocks) & (blocks <= 200))
 }
 
-fn wrong_offset(entry: &[u8]) -> bool
-    requires { length entry.now ≡ 32 }
+fn wrong_offset(entry: &[u8; 32]) -> bool
     ensures { result ≡ model.wrong_offset entry.now }
 {
     is_data(entry) & !(header_offset(entry) < size(entry))
 }
 
 // Refusal 26's test.
-pub(crate) fn wrong_entry(entry: &[u8]) -> bool
-    requires { length entry.now ≡ 32 }
+pub(crate) fn wrong_entry(entry: &[u8; 32]) -> bool
     ensures { result ≡ model.wrong_entry entry.now }
 {
     if !is_used(entry) {

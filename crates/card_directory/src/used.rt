@@ -1,59 +1,75 @@
 // The list of the used entries: the rows go over the list alone.
-ghost use Rattle.std.specs.Prelude.{◌≡◌, ◌+◌, ◌<◌, length, get_or};
-ghost use Rattle.card_model.specs.Layout.{card_length, directory_of};
+ghost use Rattle.std.specs.Prelude.{◌≡◌, ◌+◌, ◌<◌, ◌≤◌, List, ℕ, length, take, get_or};
+ghost use Rattle.verdicts.specs.Rows.{result_verdict};
+ghost use Rattle.card_model.specs.Layout.{directory_of};
 ghost use Rattle.card_model.specs.Entries.{entry_row};
 ghost use Rattle.card_directory.specs.Listed.{Listed};
 
 use crate::entry::{entry_at, is_used, wrong_entry};
-use verdicts::{Place, Verdict, done, refused_at};
-use words::{one_if, wide};
+use card_model::LENGTH;
+use std::marker::Model;
+use verdicts::{CardError, Place, Rule};
 
-// A number of the list.
-pub fn listed_at(used: &[u8; 208], j: usize) -> usize
-    requires { j < 208 }
-    ensures { result ≡ get_or used.now j 0 }
-{
-    wide(used[j])
+// The numbers of the used entries.
+#[derive(Drop)]
+pub struct UsedEntries {
+    numbers: [u8; 208],
+    count: usize,
+}
+
+impl Model for UsedEntries {
+    ghost Value = { List ℕ };
+
+    ghost view = { λ u. take u.count u.numbers };
+
+    ghost invariant = { λ u. u.count ≤ 208 };
+}
+
+impl UsedEntries {
+    pub fn as_slice(&self) -> &[u8]
+        ensures { result.now ≡ self.now }
+    {
+        &self.numbers[..self.count]
+    }
 }
 
 // Entry i is put behind the list, and stays there where it is used: the count that is answered has it then. No step depends on
 // whether it is.
-fn list_entry(card: &[u8], used: &mut [u8; 208], count: usize, i: usize) -> usize
-    requires card_len { (length card.now ≡ card_length) × (i < 208) }
+fn list_entry(card: &[u8; LENGTH], used: &mut [u8; 208], count: usize, i: usize) -> usize
+    requires below { i < 208 }
     requires listed { Listed (directory_of card.now) i used.old count }
     ensures { Listed (directory_of card.now) (i + 1) used.new result }
 {
     used[count] = i as u8;
-    count + one_if(is_used(entry_at(card, i)))
+    count + usize::from(is_used(entry_at(card, i)))
 }
 
-// Lists the used entries; answers how many there are.
-pub fn list_used(card: &[u8], used: &mut [u8; 208]) -> usize
-    requires { (length card.now ≡ card_length) × (length used.old ≡ 208) }
-    ensures { Listed (directory_of card.now) 208 used.new result }
+// Lists the used entries.
+pub fn list_used(card: &[u8; LENGTH]) -> UsedEntries
+    ensures { Listed (directory_of card.now) 208 result (length result) }
 {
+    let mut numbers = [0u8; 208];
     let mut count: usize = 0;
     let mut i = 0;
     while i < 208 {
-        count = list_entry(card, used, count, i);
+        count = list_entry(card, &mut numbers, count, i);
         i += 1;
     }
-    count
+    UsedEntries { numbers, count }
 }
 
 // Refusal 26, of the first wrong entry of the list.
-pub fn entry_row(card: &[u8], used: &[u8; 208], count: usize) -> Verdict
-    requires card_len { length card.now ≡ card_length }
-    requires listed { Listed (directory_of card.now) 208 used.now count }
-    ensures { result ≡ entry_row (directory_of card.now) }
+pub fn entry_row(card: &[u8; LENGTH], used: &[u8]) -> Result<(), CardError>
+    requires { Listed (directory_of card.now) 208 used.now (length used.now) }
+    ensures { result_verdict result ≡ entry_row (directory_of card.now) }
 {
     let mut j = 0;
-    while j < count {
-        let i = listed_at(used, j);
+    while j < used.len() {
+        let i = usize::from(used[j]);
         if wrong_entry(entry_at(card, i)) {
-            return refused_at(26, Place::Entry(i));
+            return Err(Rule::DirectoryEntry.at(Place::Entry(i)));
         }
         j += 1;
     }
-    done()
+    Ok(())
 }

@@ -1,7 +1,10 @@
 #![tactic(auto)]
 
 // What a memory card means: definitions and theorems in specs/, their proofs in proofs/. Here stand only the types that both the
-// definitions and the calls use.
+// definitions and the calls use, and a card's length.
+
+// The bytes of a card.
+pub const LENGTH: usize = 131072;
 
 // What the table says of a block: document 01, "FFFC is free, FFFF damaged, FFFA last, and 0 to 199 the next block".
 #[derive(Clone, Copy, Debug, PartialEq, Eq)]

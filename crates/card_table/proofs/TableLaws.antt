@@ -1,23 +1,26 @@
 -- The table as the card's bytes give it, and its rows one after the other. Assumes nothing.
 use Prim.Native.Nat.{ℕ, ◌+◌, ◌-◌, ◌≤◌, ◌<◌}
 use mathlib.Core.Path.{◌≡◌, sym, ◌∙◌}
-use mathlib.Core.Bool.{Bool, false}
+use mathlib.Core.Bool.{Bool, false, not}
+use lib.Dec.{eqb}
+use lib.Pointwise.{pointwise}
 use mathlib.Core.List.{List, map}
 use Rattle.std.specs.Prelude.{None, Some}
 use native.Mathlib.Omega.{arith}
 use native.Mathlib.Decide.{ℕ_discrete}
-use lib.ListN.{length, get_or, take, drop, set, length-set, length-map}
+use lib.ListN.{replicate, length, get_or, take, drop, set, length-set, length-map}
 use lib.Seq.{get_or-take, get_or-drop, get_or-set_same, get_or-set_other, ext_get_or}
 use Rattle.words.specs.Lists.{any_of, numbers_from}
 use Rattle.words.specs.Search.{lowest}
 use Rattle.words.specs.Words.{word}
 use Rattle.words.proofs.JoinLaws.{none-range}
 use Rattle.words.proofs.PartsLaws.{numbers-length}
+use Rattle.words.proofs.SameLaws.{pointwise-same}
 use Rattle.words.proofs.SearchLaws.{lowest-nothing}
-use Rattle.verdicts.specs.Rows.{Verdict}
 use Rattle.verdicts.specs.declared.Place.TheVariants.{Block}
-use Rattle.verdicts.specs.Rows.{done, refused_at, unless_refused}
-use Rattle.verdicts.proofs.RowLaws.{refused_first, not_refused, rows-joined}
+use Rattle.verdicts.specs.declared.CardError.{CardError}
+use Rattle.verdicts.specs.Rows.{done, refused_at, row_at, unless_refused, error_verdict}
+use Rattle.verdicts.proofs.RowLaws.{error_first, passed_first, rows-joined}
 use Rattle.card_model.specs.Layout.{fat_place, table_of}
 use Rattle.card_model.specs.Table.{fat_entry, magic_row, fields_row, wrong_system, wrong_hidden, wrong_user, system_row, hidden_row, user_row}
 use Rattle.card_model.specs.Calls.{table_rows}
@@ -87,12 +90,17 @@ module _ (table : List ℕ) where
       unfolding region_rows system_row hidden_row user_row
       none-refused {u} e no-u = rw (system, hidden, none-wrong (wrong_user table) 0 200 u e no-u)
 
--- past the root: r is what was found of rows 21 and 22
-module _ (root table : List ℕ) (r : Verdict) (e : r ≡ unless_refused (magic_row root) (fields_row root)) where
-  pub root-refused : (r.number ≡ 0 → ⊥) → table_rows root table ≡ r
-  unfolding table_rows
-  root-refused n = sym (rows-joined (magic_row root) (fields_row root) _) ∙ refused_first _ _ r e n
+-- row 21 by a test of the bytes
+pub magic-tested : (root : List ℕ) (t : Bool) → t ≡ not (pointwise eqb (take 16 root) (replicate 16 85)) → magic_row root ≡ row_at 21 (Block 255) t
+unfolding magic_row
+magic-tested root t e = rw (e, pointwise-same (take 16 root) (replicate 16 85))
 
-  pub root-passed : r.number ≡ 0 → table_rows root table ≡ region_rows table
-  unfolding table_rows region_rows
-  root-passed n = sym (rows-joined (magic_row root) (fields_row root) _) ∙ not_refused _ _ r e n
+-- past the root, by what was found of rows 21 and 22
+pub root_refused : (root table : List ℕ) (e : CardError) → error_verdict e ≡ unless_refused (magic_row root) (fields_row root)
+    → error_verdict e ≡ table_rows root table
+unfolding table_rows
+root_refused root table e q = sym (error_first e _ _ q) ∙ rows-joined (magic_row root) (fields_row root) _
+
+pub root_passed : (root table : List ℕ) → done ≡ unless_refused (magic_row root) (fields_row root) → region_rows table ≡ table_rows root table
+unfolding table_rows region_rows
+root_passed root table q = sym (passed_first _ _ q) ∙ rows-joined (magic_row root) (fields_row root) _

@@ -5,18 +5,15 @@ ghost use Rattle.std.specs.Prelude.{◌≡◌, true, ◌+◌, ◌-◌, ◌≤◌
 ghost use Rattle.std.specs.Prelude.{Some};
 ghost use Rattle.words.specs.Lists.{any_of, numbers_from};
 ghost use Rattle.words.specs.Search.{lowest};
-ghost use Rattle.verdicts.specs.Rows.{unless_refused};
+ghost use Rattle.verdicts.specs.Rows.{unless_refused, result_verdict};
 ghost use Rattle.card_model.specs.Layout.{card_length, root_of, fat_place, table_of};
 ghost use Rattle.card_model.specs.Table.{magic_row, fields_row, right_fields, fat_entry, link_of, system_entry, free_or_damaged, is_bad};
 ghost use Rattle.card_model.specs.Calls.{table_rows};
 ghost use Rattle.card_table.specs.Regions.{wrong_in, Ready, region_rows};
 
-use card_model::Link;
-use verdicts::{Place, Verdict, done, refused_at};
-use words::{same, word};
-
-// The bytes of a card.
-pub const LENGTH: usize = 131072;
+use card_model::{LENGTH, Link};
+use verdicts::{CardError, Place, Rule};
+use words::word;
 
 const ROOT: usize = 130560;
 
@@ -39,8 +36,9 @@ pub fn fat_place(b: usize) -> usize
 }
 
 // The table's entry of a block, in one load: from a part of its own.
-pub fn fat_entry(card: &[u8], b: usize) -> usize
-    requires { (length card.now ≡ card_length) × (b < 256) }
+#[tactic(auto, unfolding(card_model::specs::Layout::card_length))]
+pub fn fat_entry(card: &[u8; LENGTH], b: usize) -> usize
+    requires { b < 256 }
     ensures { (result ≡ fat_entry (table_of card.now) b) × (result < 65536) }
 {
     let at = fat_place(b);
@@ -49,8 +47,7 @@ pub fn fat_entry(card: &[u8], b: usize) -> usize
 }
 
 // The whole table, each number in its two bytes.
-pub fn read_table(card: &[u8]) -> [u16; 256]
-    requires { length card.now ≡ card_length }
+pub fn read_table(card: &[u8; LENGTH]) -> [u16; 256]
     ensures { result ≡ table_of card.now }
 {
     let mut table = [0u16; 256];
@@ -110,8 +107,8 @@ fn system_entry(b: usize) -> usize
     b - 1
 }
 
-fn is_wrong(card: &[u8], region: Region, b: usize) -> bool
-    requires card_len { (length card.now ≡ card_length) × (b < 256) }
+fn is_wrong(card: &[u8; LENGTH], region: Region, b: usize) -> bool
+    requires below { b < 256 }
     requires ready { Ready region b }
     ensures { result ≡ wrong_in region (table_of card.now) b }
 {
@@ -124,8 +121,8 @@ fn is_wrong(card: &[u8], region: Region, b: usize) -> bool
 }
 
 // Whether a block of a range is wrong. The loop has no early exit: several entries go in one step.
-fn any_wrong(card: &[u8], region: Region, from: usize, to: usize) -> bool
-    requires card_len { (length card.now ≡ card_length) × (to ≤ 256) }
+fn any_wrong(card: &[u8; LENGTH], region: Region, from: usize, to: usize) -> bool
+    requires range { to ≤ 256 }
     requires ready { Ready region from }
     ensures { result ≡ any_of (wrong_in region (table_of card.now)) (numbers_from from (to - from)) }
 {
@@ -139,8 +136,8 @@ fn any_wrong(card: &[u8], region: Region, from: usize, to: usize) -> bool
 }
 
 // The first wrong block of a range, which is looked for only where there is one.
-fn first_wrong(card: &[u8], region: Region, from: usize, to: usize) -> usize
-    requires card_len { (length card.now ≡ card_length) × (to ≤ 256) }
+fn first_wrong(card: &[u8; LENGTH], region: Region, from: usize, to: usize) -> usize
+    requires range { to ≤ 256 }
     requires ready { Ready region from }
     requires from_value { any_of (wrong_in region (table_of card.now)) (numbers_from from (to - from)) ≡ true }
     ensures { lowest (wrong_in region (table_of card.now)) from (to - from) ≡ Some result }
@@ -156,30 +153,22 @@ fn first_wrong(card: &[u8], region: Region, from: usize, to: usize) -> usize
 }
 
 // Refusals 23 to 25. The table is read where it stands.
-fn regions_verdict(card: &[u8]) -> Verdict
-    requires { length card.now ≡ card_length }
-    ensures { result ≡ region_rows (table_of card.now) }
+fn regions_verdict(card: &[u8; LENGTH]) -> Result<(), CardError>
+    ensures { result_verdict result ≡ region_rows (table_of card.now) }
 {
     if any_wrong(card, Region::System, 241, 256) {
-        return refused_at(
-            23,
-            Place::Block(first_wrong(card, Region::System, 241, 256)),
-        );
+        return Err(Rule::SystemEntry.at(Place::Block(first_wrong(card, Region::System, 241, 256))));
     }
     if any_wrong(card, Region::Hidden, 200, 241) {
-        return refused_at(
-            24,
-            Place::Block(first_wrong(card, Region::Hidden, 200, 241)),
-        );
+        return Err(Rule::HiddenEntry.at(Place::Block(first_wrong(card, Region::Hidden, 200, 241))));
     }
     if any_wrong(card, Region::User, 0, 200) {
-        return refused_at(25, Place::Block(first_wrong(card, Region::User, 0, 200)));
+        return Err(Rule::UserEntry.at(Place::Block(first_wrong(card, Region::User, 0, 200))));
     }
-    done()
+    Ok(())
 }
 
-fn right_fields(root: &[u8]) -> bool
-    requires { length root.now ≡ 512 }
+fn right_fields(root: &[u8; 512]) -> bool
     ensures { result ≡ right_fields root.now }
 {
     (word(root, 0x46) == 254)
@@ -190,27 +179,29 @@ fn right_fields(root: &[u8]) -> bool
 }
 
 // Refusals 21 and 22.
-fn root_verdict(root: &[u8]) -> Verdict
-    requires { length root.now ≡ 512 }
-    ensures { result ≡ unless_refused (magic_row root.now) (fields_row root.now) }
+fn root_verdict(root: &[u8; 512]) -> Result<(), CardError>
+    ensures { result_verdict result ≡ unless_refused (magic_row root.now) (fields_row root.now) }
 {
-    if !same(&root[0..16], &[0x55u8; 16]) {
-        return refused_at(21, Place::Block(255));
+    if root[0..16] != [0x55u8; 16] {
+        return Err(Rule::RootMagic.at(Place::Block(255)));
     }
     if !right_fields(root) {
-        return refused_at(22, Place::Block(255));
+        return Err(Rule::RootFields.at(Place::Block(255)));
     }
-    done()
+    Ok(())
+}
+
+fn root_block(card: &[u8; LENGTH]) -> &[u8; 512]
+    ensures { result.now ≡ root_of card.now }
+{
+    card[ROOT..LENGTH].as_array().unwrap()
 }
 
 // Refusals 21 to 25.
-pub fn table_verdict(card: &[u8]) -> Verdict
-    requires { length card.now ≡ card_length }
-    ensures { result ≡ table_rows (root_of card.now) (table_of card.now) }
+#[tactic(auto, using(crate::proofs::TableLaws::root_refused, crate::proofs::TableLaws::root_passed))]
+pub fn table_verdict(card: &[u8; LENGTH]) -> Result<(), CardError>
+    ensures { result_verdict result ≡ table_rows (root_of card.now) (table_of card.now) }
 {
-    let root = root_verdict(&card[ROOT..LENGTH]);
-    if root.number != 0 {
-        return root;
-    }
+    root_verdict(root_block(card))?;
     regions_verdict(card)
 }

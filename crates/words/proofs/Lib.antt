@@ -9,3 +9,4 @@ pub mod JoinLaws
 pub mod PartsLaws
 pub mod BigLaws
 pub mod LittleLaws
+pub mod SameLaws

@@ -6,4 +6,4 @@ use Rattle.card_table.proofs.fat_entry.Goals as goal
 
 pub returns : goal.returns
 returns c =
-    (c.word.ensures.0 ∙ part-word _ _ ∙ ap (word c.args.card.now) c.fat_place-at.ensures.0 ∙ sym (fat-is c.args.card.now c.args.b c.requires.1), c.word.ensures.1)
+    (c.word.ensures.0 ∙ part-word _ _ ∙ ap (word c.args.card.now) c.fat_place-at.ensures.0 ∙ sym (fat-is c.args.card.now c.args.b c.requires), c.word.ensures.1)
