@@ -1,28 +1,14 @@
--- Parts of a card, what a search answered, and rules 26 and 29 of an entry. Assumes nothing.
-use Prim.Native.Nat.{ℕ, ◌+◌, ◌-◌, ◌<◌}
-use mathlib.Core.Path.{◌≡◌, refl, sym, ap, ◌∙◌}
+-- Parts of a card, and rules 26 and 29 of an entry. Assumes nothing.
+use Prim.Native.Nat.{ℕ}
+use mathlib.Core.Path.{◌≡◌, ap, ◌∙◌}
 use mathlib.Core.Bool.{true, false}
 use mathlib.Core.List.{List}
-use Rattle.std.specs.Prelude.{Option, None, Some}
-use native.Mathlib.Omega.{arith}
-use native.Mathlib.Nat.{add-sub_cancel_left}
-use lib.ListN.{length, take, drop}
+use Rattle.std.specs.Prelude.{Option}
 use Rattle.words.specs.Lists.{is_some}
 use Rattle.words.specs.Search.{lowest}
 use Rattle.words.specs.Words.{same_bytes}
 use Rattle.words.proofs.SearchLaws.{any-lowest}
-use Rattle.card_model.specs.Layout.{card_length, entry_place, directory_of}
 use Rattle.card_model.specs.Entries.{name_of, is_used, wrong_entry, entry_at, is_named, name_taken}
-use Rattle.card_model.proofs.EntryLaws.{entry-is, entry_length}
-use Rattle.card_directory.specs.declared.search.FoundEntry.TheVariants.{Hit, Nothing}
-use Rattle.card_directory.specs.Found.{as_found}
-
--- an entry's bytes as the part that a function takes out at this place
-pub entry-part : (card : List ℕ) (i : ℕ) {at : ℕ} → length card ≡ card_length → i < 208 → at ≡ entry_place i
-    → (take (at + 32 - at) (drop at card) ≡ entry_at (directory_of card) i) × (length (take (at + 32 - at) (drop at card)) ≡ 32)
-entry-part card i {at} long b e =
-    let part = ap (λ (n : ℕ). take n (drop at card)) (add-sub_cancel_left at 32) ∙ ap (λ (p : ℕ). take 32 (drop p card)) e ∙ sym (entry-is card i b) in
-    (part, ap length part ∙ entry_length card i long b)
 
 pub unused-right : (directory : List (List ℕ)) (i : ℕ) → is_used (entry_at directory i) ≡ false → wrong_entry (entry_at directory i) ≡ false
 unfolding wrong_entry
@@ -36,18 +22,6 @@ listed-named name e u = rw (e, u)
 pub unused-unnamed : (directory : List (List ℕ)) (name : List ℕ) (i : ℕ) → is_used (entry_at directory i) ≡ false → is_named name (entry_at directory i) ≡ false
 unfolding is_named
 unused-unnamed directory name i u = rw u
-
--- ---- what a search answered
-
-pub found_some : (o : Option ℕ) (k : ℕ) → as_found o ≡ Hit k → o ≡ Some k
-found_some None k e = let z : ◌≡◌ {A = ℕ} 0 1 = cc in absurd (omega arith)
-found_some (Some i) k e =
-    let d : i ≡ k = cc in
-    ap (λ (j : ℕ). Some j) d
-
-pub found_none : (o : Option ℕ) → as_found o ≡ Nothing → o ≡ None
-found_none None e = refl
-found_none (Some i) e = let z : ◌≡◌ {A = ℕ} 0 1 = cc in absurd (omega arith)
 
 -- ---- rule 29 of the entry that stands in a part s of the card
 

@@ -1,15 +1,16 @@
 -- The list of the used entries: how it grows, and what a walk along it finds. Assumes nothing.
 use Prim.Native.Nat.{ℕ, zero, suc, ◌+◌, ◌-◌, ◌≤◌, ◌<◌}
 use mathlib.Core.Path.{◌≡◌, refl, sym, ap, ◌∙◌}
-use mathlib.Core.Bool.{Bool, true, false, cond, true≢false}
+use mathlib.Core.Bool.{Bool, true, false, true≢false}
 use mathlib.Core.List.{List}
 use Rattle.std.specs.Prelude.{Option, None, Some}
 use native.Mathlib.Omega.{arith}
+use mir.Val.{bool_byte}
 use native.Mathlib.Decide.{ℕ_discrete}
 use native.Mathlib.Numerals.{add-one}
 use lib.Dec.{ltb}
-use lib.ListN.{length, get_or, set, length-set}
-use lib.Seq.{get_or-set_same, get_or-set_other}
+use lib.ListN.{length, get_or, take, set, length-set}
+use lib.Seq.{length-take-le, get_or-take, get_or-set_same, get_or-set_other}
 use borrow.Author.Tests.{ltb-true, ltb-false}
 use Rattle.words.specs.Search.{lowest}
 use Rattle.words.proofs.SearchLaws.{lowest-is, lowest-nothing}
@@ -27,8 +28,8 @@ reached-set used n x zero h = refl
 reached-set used n x (suc j) h = ap suc (get_or-set_other used n j x 0 (λ d. omega arith))
 
 module _ (directory : List (List ℕ)) where
-  pub listed_start : (used : List ℕ) → length used ≡ 208 → Listed directory 0 used 0
-  listed_start used e = record { long = e; fits = omega arith; each = λ j h. absurd (omega arith); rest = λ k a b. absurd (omega arith) }
+  pub listed_start : (used : List ℕ) → Listed directory 0 used 0
+  listed_start used = record { long = omega arith; fits = omega arith; each = λ j h. absurd (omega arith); rest = λ k a b. absurd (omega arith) }
 
   later : {start i end n : ℕ} → i ≤ end → NextUsed directory start i n → NextUsed directory start end n
   later h u = record { from_start = u.from_start; before_end = omega (arith, u.before_end); is_used_lem = u.is_used_lem; skipped = u.skipped }
@@ -36,7 +37,7 @@ module _ (directory : List (List ℕ)) where
   -- a number behind the list
   listed-behind : {end : ℕ} {used : List ℕ} {count : ℕ} (x : ℕ) → Listed directory end used count → Listed directory end (set used count x) count
   listed-behind {used = used} {count} x l = record {
-    long = length-set used count x ∙ l.long;
+    long = omega (arith, length-set used count x, l.long);
     fits = l.fits;
     each = λ j h. rw (get_or-set_other used count j x 0 (λ e. omega arith), reached-set used count x j (omega arith)) (l.each j h);
     rest = rw (reached-set used count x count (omega arith)) l.rest;
@@ -64,16 +65,16 @@ module _ (directory : List (List ℕ)) where
         go k a b (yes d) = ap (λ (n : ℕ). is_used (entry_at directory n)) d ∙ u
         go k a b (no d) = l.rest k a (omega (arith, d))
 
-    used-next : i < 208 → is_used (entry_at directory i) ≡ true → Listed directory (i + 1) (set used count i) (count + 1)
+    used-next : count < length used → is_used (entry_at directory i) ≡ true → Listed directory (i + 1) (set used count i) (count + 1)
     used-next b u = record {
-      long = length-set used count i ∙ l.long;
+      long = omega (arith, length-set used count i, b);
       fits = omega (arith, l.fits);
       each = λ j h. go j h (ℕ_discrete j count);
       rest = rw (add-one count, new) (λ k a c. absurd (omega arith));
     }
       where
         new : get_or (set used count i) count 0 ≡ i
-        new = get_or-set_same used count i 0 (omega (arith, l.fits, l.long))
+        new = get_or-set_same used count i 0 b
 
         go : (j : ℕ) → j < count + 1 → Dec (j ≡ count) → NextUsed directory (reached (set used count i) j) (i + 1) (get_or (set used count i) j 0)
         go j h (yes d) =
@@ -82,11 +83,27 @@ module _ (directory : List (List ℕ)) where
         go j h (no d) =
             rw (get_or-set_other used count j i 0 d, reached-set used count i j (omega arith)) (later (omega arith) (l.each j (omega (arith, d))))
 
-    pub listed_next : i < 208 → (t : Bool) → is_used (entry_at directory i) ≡ t → Listed directory (i + 1) (set used count i) (count + cond t 1 0)
+    pub listed_next : count < length used → (t : Bool) → is_used (entry_at directory i) ≡ t → Listed directory (i + 1) (set used count i) (count + bool_byte t)
     listed_next b true u = used-next b u
     listed_next b false u =
         let e : count + 0 ≡ count = omega arith in
         rw e (listed-behind i (unused-next u))
+
+-- the slice of the numbers of a list is the list
+pub listed-taken : {directory : List (List ℕ)} {used : List ℕ} {end count : ℕ} → Listed directory end used count
+    → Listed directory end (take count used) (length (take count used))
+listed-taken {directory} {used} {end} {count} l =
+    rw (length-take-le count used l.long)
+    (record {
+      long = omega (arith, length-take-le count used l.long);
+      fits = l.fits;
+      each = λ j h. rw (get_or-take count used j 0 h, same-reached j (omega arith)) (l.each j h);
+      rest = rw (same-reached count (omega arith)) l.rest;
+    })
+  where
+    same-reached : (j : ℕ) → j ≤ count → reached (take count used) j ≡ reached used j
+    same-reached zero h = refl
+    same-reached (suc j) h = ap suc (get_or-take count used j 0 h)
 
 -- a number of the list
 pub listed_below : {directory : List (List ℕ)} {used : List ℕ} {count : ℕ} → Listed directory 208 used count → (j i : ℕ) → i ≡ get_or used j 0 → j < count → i < 208

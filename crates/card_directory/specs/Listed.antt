@@ -18,7 +18,7 @@ reached used (suc j) = suc (get_or used j 0)
 -- The first `count` numbers are those of the used entries before `end`, all of them, in order: each is the next used entry, and
 -- after the last there is none.
 pub record Listed (directory : List (List ℕ)) (end : ℕ) (used : List ℕ) (count : ℕ) : Type 0 where
-  pub long : length used ≡ 208
+  pub long : count ≤ length used
   pub fits : count ≤ end
   pub each : (j : ℕ) → j < count → NextUsed directory (reached used j) end (get_or used j 0)
   pub rest : (k : ℕ) → reached used count ≤ k → k < end → is_used (entry_at directory k) ≡ false

@@ -16,6 +16,7 @@ pub fn entry_place(i: usize) -> usize
 }
 
 // The bytes of entry i.
+#[tactic(auto, unfolding(card_model::specs::Layout::card_length))]
 pub fn entry_at(card: &[u8; LENGTH], i: usize) -> &[u8; 32]
     requires { i < 208 }
     ensures { result.now ≡ model.entry_at (directory_of card.now) i }
@@ -61,7 +62,7 @@ pub fn first_block(entry: &[u8; 32]) -> usize
 pub fn has_name(entry: &[u8; 32], name: &[u8]) -> bool
     ensures { result ≡ same_bytes (model.name_of entry.now) name.now }
 {
-    entry[4..16] == *name
+    &entry[4..16] == name
 }
 
 pub fn size(entry: &[u8; 32]) -> usize

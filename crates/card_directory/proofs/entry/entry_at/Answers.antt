@@ -1,6 +1,7 @@
-use Rattle.card_directory.proofs.DirectoryLaws.{entry-part}
+use Rattle.std.proofs.Common.{arith}
+use Rattle.std.proofs.lemmas.Grind.{common_steps}
+use Rattle.card_model.proofs.EntryLaws.{entry-is}
 use Rattle.card_directory.proofs.entry.entry_at.Goals as goal
 
 pub returns : goal.returns
-returns c =
-    entry-part c.args.card.now c.args.i c.requires.0 c.requires.1 c.entry_place-at.ensures.0
+returns c = rw (entry-is c.args.card.now c.args.i c.requires, ← c.entry_place-at.ensures.0) (grind (arith, common_steps))

@@ -1,4 +1,5 @@
 -- What is found from here on is what is found from the start.
+use lib.ListN.{length}
 use mathlib.Core.Bool.{Bool}
 use mathlib.Core.List.{List}
 use Rattle.card_model.specs.Layout.{directory_of}
@@ -14,7 +15,7 @@ abbrev pub named : List ℕ → List ℕ → ℕ → Bool
 named card name i = is_named name (entry_at (directory_of card) i)
 
 abbrev pub invariant-loop-j : goal.invariant-loop-j
-invariant-loop-j l = (l.j ≤ l.count) × (first_from (named l.card l.name) 0 ≡ first_from (named l.card l.name) (reached l.used l.j))
+invariant-loop-j l = (l.j ≤ length l.used) × (first_from (named l.card l.name) 0 ≡ first_from (named l.card l.name) (reached l.used l.j))
 
 abbrev pub decreases-loop-j : goal.decreases-loop-j
-decreases-loop-j l = l.count - l.j
+decreases-loop-j l = length l.used - l.j
