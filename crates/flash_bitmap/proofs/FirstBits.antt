@@ -11,7 +11,8 @@ use lib.ListN.{length, get_or, take, drop, set, replicate, length-set, length-ap
 use lib.Seq.{get_or-set_same, get_or-set_other, get_or-append-add, get_or-drop, drop-length, take_all, ext_get_or}
 use lib.Pow.{pow_mono}
 use borrow.Author.Tests.{eqb-true, lt-leb, not-false}
-use borrow.Rule.Slice.PartMut.{mid_of, post_of, put_mid, Post-is, mid_len}
+use borrow.Rule.Slice.PartMut.{mid_of, put_mid, Post-is, mid_len}
+use Rattle.std.proofs.lemmas.List.{length-take-le}
 use Rattle.words.proofs.JoinLaws.{none-range}
 use Rattle.flash_model.specs.Measures.{first_bitmap, capacity}
 use Rattle.flash_model.specs.Bitmap.{bit_byte, bit_place, bit_weight, cleared, first_cleared}
@@ -112,12 +113,9 @@ first-cleared bits n h ff =
 
 -- ---- as the code lends parts
 
-pub part-cleared : {part : List ℕ} (bits : List ℕ) (n : ℕ) → n < 8 * length bits → IsBlank bits → part ≡ replicate (length (mid_of 0 (n / 8 - 0) bits)) 0
-    → set (part ++ post_of 0 (n / 8 - 0) bits) (n / 8) (255 / 2 ^ (n % 8)) ≡ first_cleared bits n
-part-cleared {part} bits n h ff p =
-    let same : n / 8 - 0 ≡ n / 8 = omega arith in
-    let q : part ≡ replicate (n / 8) 0 = p ∙ ap (λ (k : ℕ). replicate {A = ℕ} k 0) (mid_len 0 (n / 8) bits (omega arith) ∙ same) in
-    rw (q, Post-is 0 (n / 8) bits (omega arith)) (first-cleared bits n h ff)
+pub part-cleared : {part : List ℕ} (bits : List ℕ) (n : ℕ) → n < 8 * length bits → IsBlank bits → part ≡ replicate (length (take (n / 8) bits)) 0
+    → set (part ++ drop (n / 8) bits) (n / 8) (255 / 2 ^ (n % 8)) ≡ first_cleared bits n
+part-cleared bits n h ff p = rw (p, length-take-le (n / 8) bits (omega arith)) (first-cleared bits n h ff)
 
 module _ {image : List ℕ} {size first at : ℕ} (o : HasMeasures image size) (f : first ≡ first_bitmap size) (s : at ≡ first * 64) where
   e : at ≡ first_bitmap (length image) * 64

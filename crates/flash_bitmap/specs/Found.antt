@@ -1,6 +1,6 @@
 -- What is searched for in a bitmap. Assumes nothing.
 use Rattle.std.specs.Prelude.{ℕ, ◌-◌, ◌/◌, ◌%◌, Bool, not, List, eqb, length}
-use Rattle.std.specs.Prelude.{Option, None, Some}
+use Rattle.std.specs.Prelude.{Option}
 use Rattle.words.specs.Search.{lowest}
 use Rattle.flash_model.specs.Measures.{first_bitmap}
 use Rattle.flash_model.specs.Bitmap.{bit_weight, bit_of}

@@ -13,9 +13,8 @@ ghost use Rattle.flash_bitmap.specs.Blank.{IsBlank};
 ghost use Rattle.flash_bitmap.specs.Found.{lowest_allocated, lowest_differing};
 ghost use Rattle.flash_bitmap.specs.HighBits.{HighestOne, lowest_in_byte};
 
-use flash_measures::Measures;
+use flash_measures::{Image, Measures};
 use runs::run_end;
-use words::fill;
 
 // The byte of the image that has user block k's bit.
 fn bit_byte(m: Measures, k: usize) -> usize
@@ -68,45 +67,42 @@ fn lowest_in_byte(byte: u8, first: usize, end: usize) -> Option<usize>
 
 // From byte i of the bitmap on, the lowest user block whose bit differs from that of `byte` at its place: a free one for 0, an
 // allocated one for FF. Bytes equal to `byte` are passed.
-fn lowest_differing(image: &[u8], m: Measures, i: usize, byte: u8) -> Option<usize>
-    requires has_measures { HasMeasures image.now m.size }
-    requires i_bound { i ≤ (capacity m.size + 7) / 8 }
-    ensures { result ≡ lowest_differing image.now byte (i * 8 + 1) }
+fn lowest_differing(image: Image<'_>, i: usize, byte: u8) -> Option<usize>
+    requires { i ≤ (capacity image.m.size + 7) / 8 }
+    ensures { result ≡ lowest_differing image.entry.bytes.now byte (i * 8 + 1) }
 {
-    let end = m.first_bitmap();
-    let bitmap = m.start(end);
-    let bits_end = bitmap + (m.capacity() + 7) / 8;
-    let at = run_end(image, bitmap + i, bits_end, byte);
+    let end = image.m.first_bitmap();
+    let bitmap = image.m.start(end);
+    let bits_end = bitmap + (image.m.capacity() + 7) / 8;
+    let at = run_end(image.bytes, bitmap + i, bits_end, byte);
     if at == bits_end {
         return None;
     }
-    lowest_in_byte(image[at] ^ byte, (at - bitmap) * 8 + 1, end)
+    lowest_in_byte(image.bytes[at] ^ byte, (at - bitmap) * 8 + 1, end)
 }
 
 // The lowest free user block: from byte 0 on, the first bit that is not 0.
-pub fn lowest_free(image: &[u8], m: Measures) -> Option<usize>
-    requires { HasMeasures image.now m.size }
-    ensures { result ≡ lowest_free image.now }
+pub fn lowest_free(image: Image<'_>) -> Option<usize>
+    ensures { result ≡ lowest_free image.entry.bytes.now }
 {
-    lowest_differing(image, m, 0, 0)
+    lowest_differing(image, 0, 0)
 }
 
 // The lowest allocated user block from `from` on: the first bit there that is 0. In `rest` it is the first 1, and the bits before
 // that of `from` are shifted out.
-pub fn lowest_allocated(image: &[u8], m: Measures, from: usize) -> Option<usize>
-    requires has_measures { HasMeasures image.now m.size }
-    requires le_from { 1 ≤ from }
-    ensures { result ≡ lowest_allocated image.now from }
+pub fn lowest_allocated(image: Image<'_>, from: usize) -> Option<usize>
+    requires { 1 ≤ from }
+    ensures { result ≡ lowest_allocated image.entry.bytes.now from }
 {
-    let end = m.first_bitmap();
+    let end = image.m.first_bitmap();
     if end <= from {
         return None;
     }
-    let rest = (image[bit_byte(m, from)] ^ 255) << ((from - 1) % 8);
+    let rest = (image.bytes[bit_byte(image.m, from)] ^ 255) << ((from - 1) % 8);
     if rest != 0 {
         return lowest_in_byte(rest, from, end);
     }
-    lowest_differing(image, m, (from - 1) / 8 + 1, 255)
+    lowest_differing(image, (from - 1) / 8 + 1, 255)
 }
 
 // Clears the first n bits of a bitmap whose bytes are all FF: full bytes, then the high bits of one more.
@@ -115,7 +111,7 @@ fn clear_first(bits: &mut [u8], n: usize)
     ensures { bits.new ≡ first_cleared bits.old n }
 {
     let full_bytes = n / 8;
-    fill(&mut bits[0..full_bytes], 0);
+    bits[..full_bytes].fill(0);
     bits[full_bytes] = 255u8 >> (n % 8);
 }
 

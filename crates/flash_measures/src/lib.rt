@@ -3,6 +3,7 @@
 // The measures of a partition: one value with its own operations.
 ghost use Rattle.std.specs.Prelude.{◌≡◌, true, ◌*◌, ◌≤◌, is_ok, MatchResult};
 ghost use Rattle.flash_model.specs.Measures as model;
+ghost use Rattle.flash_measures.specs.HasMeasures.{HasMeasures};
 ghost use Rattle.flash_model.specs.declared.FlashError.TheVariants.{ImageLength};
 
 use flash_model::FlashError;
@@ -38,6 +39,14 @@ impl TryFrom<usize> for Measures {
         }
         Ok(Measures { size: len })
     }
+}
+
+// An image of a legal length, with its measures.
+#[derive(Clone, Copy)]
+pub struct Image<'a> {
+    pub bytes: &'a [u8],
+    pub m: Measures,
+    ghost sized: { HasMeasures bytes.now m.size },
 }
 
 impl Measures {

@@ -1,5 +1,5 @@
 use Prim.Native.Nat.{ℕ, ◌+◌, ◌*◌, ◌/◌, ◌≤◌, ◌<◌}
-use mathlib.Core.Path.{◌≡◌, sym, ap, ◌∙◌}
+use mathlib.Core.Path.{◌≡◌, sym, ◌∙◌}
 use mathlib.Core.List.{List}
 use native.Mathlib.Omega.{arith}
 use lib.Bits.{bit_xor, xor_lt}
@@ -26,37 +26,37 @@ module _ {s : List ℕ} {byte at end to : ℕ} (whole : WholeRun s byte at end t
   other = xor-pos _ _ (whole.ended ended)
 
 pub overflow_add-bits_end : goal.overflow_add-bits_end
-overflow_add-bits_end c = omega (arith, c.capacity.ensures, (measures-known c.requires.has_measures).two_bytes)
+overflow_add-bits_end c = omega (arith, c.capacity.ensures, (measures-known c.args.image.sized).two_bytes)
 
 pub overflow_add-bits_end-2 : goal.overflow_add-bits_end-2
-overflow_add-bits_end-2 c = omega (arith, inside c.requires.has_measures c.first_bitmap-end.ensures c.start-bitmap.ensures c.capacity.ensures)
+overflow_add-bits_end-2 c = omega (arith, inside c.args.image.sized c.first_bitmap-end.ensures c.start-bitmap.ensures c.capacity.ensures)
 
 pub overflow_add-bitmap : goal.overflow_add-bitmap
 overflow_add-bitmap c =
-    omega (arith, inside c.requires.has_measures c.first_bitmap-end.ensures c.start-bitmap.ensures c.capacity.ensures, c.requires.i_bound, c.capacity.ensures)
+    omega (arith, inside c.args.image.sized c.first_bitmap-end.ensures c.start-bitmap.ensures c.capacity.ensures, c.requires, c.capacity.ensures)
 
 pub run_end-at-requires : goal.run_end-at-requires
 run_end-at-requires c =
-    (omega (arith, c.requires.i_bound, c.capacity.ensures), inside c.requires.has_measures c.first_bitmap-end.ensures c.start-bitmap.ensures c.capacity.ensures)
+    (omega (arith, c.requires, c.capacity.ensures), inside c.args.image.sized c.first_bitmap-end.ensures c.start-bitmap.ensures c.capacity.ensures)
 
 pub returns-then-at-bits_end : goal.returns-then-at-bits_end
 returns-then-at-bits_end c =
-    sym ((run-to-end c.requires.has_measures c.first_bitmap-end.ensures c.start-bitmap.ensures c.capacity.ensures
-    c.args.byte c.args.i c.run_end-at.result c.run_end-at.ensures.run c.if-at-bits_end.true))
+    sym (run-to-end c.args.image.sized c.first_bitmap-end.ensures c.start-bitmap.ensures c.capacity.ensures
+    c.args.byte c.args.i c.run_end-at.result c.run_end-at.ensures.run c.if-at-bits_end.true)
 
 pub bounds-image-at : goal.bounds-image-at
 bounds-image-at c =
-    omega (arith, ended c.run_end-at.ensures c.if-at-bits_end.false, inside c.requires.has_measures c.first_bitmap-end.ensures c.start-bitmap.ensures c.capacity.ensures)
+    omega (arith, ended c.run_end-at.ensures c.if-at-bits_end.false, inside c.args.image.sized c.first_bitmap-end.ensures c.start-bitmap.ensures c.capacity.ensures)
 
 pub lowest_in_byte-requires : goal.lowest_in_byte-requires
 lowest_in_byte-requires c = (
   other c.run_end-at.ensures c.if-at-bits_end.false,
-  omega (arith, ended c.run_end-at.ensures c.if-at-bits_end.false, c.capacity.ensures, c.first_bitmap-end.ensures, (measures-known c.requires.has_measures).first_bitmap_lem),
+  omega (arith, ended c.run_end-at.ensures c.if-at-bits_end.false, c.capacity.ensures, c.first_bitmap-end.ensures, (measures-known c.args.image.sized).first_bitmap_lem),
 )
 
 pub returns : goal.returns
 returns c =
     c.lowest_in_byte.ensures
-    ∙ sym ((run-to-other c.requires.has_measures c.first_bitmap-end.ensures c.start-bitmap.ensures c.capacity.ensures
+    ∙ sym (run-to-other c.args.image.sized c.first_bitmap-end.ensures c.start-bitmap.ensures c.capacity.ensures
     c.args.byte c.args.i c.run_end-at.result c.run_end-at.ensures.run
-    (other c.run_end-at.ensures c.if-at-bits_end.false) (xor_lt 8 _ _ (c.shared_slice_known-2-1.given _).fits c.ranges.byte.fits)))
+    (other c.run_end-at.ensures c.if-at-bits_end.false) (xor_lt 8 _ _ (omega arith) c.ranges.byte.fits))
