@@ -1,22 +1,15 @@
--- The tests of rows 23 to 25, by region, and these rows one after the other.
+-- A row over a range of blocks, and what a test of them tells.
 -- Assumes nothing.
-use Rattle.std.specs.Prelude.{ℕ, ◌≤◌, Bool, List}
+use Rattle.std.specs.Prelude.{ℕ, ◌-◌, Bool, ◌≡◌, ◌≤◌, ◌<◌}
+use Rattle.words.specs.Search.{lowest}
+use Rattle.verdicts.specs.declared.Place.TheVariants.{Block}
 use Rattle.verdicts.specs.Rows.{Verdict}
-use Rattle.verdicts.specs.Rows.{unless_refused}
-use Rattle.card_model.specs.Table.{wrong_system, wrong_hidden, wrong_user, system_row, hidden_row, user_row}
-use Rattle.card_table.specs.declared.Region.{Region}
-use Rattle.card_table.specs.declared.Region.TheVariants.{System, Hidden, User}
+use Rattle.verdicts.specs.Rows.{row_over}
 
-abbrev pub wrong_in : Region → List ℕ → ℕ → Bool
-wrong_in System = wrong_system
-wrong_in Hidden = wrong_hidden
-wrong_in User = wrong_user
+-- A test whose answers these are answers as p at each block of a range.
+abbrev pub Tests : (ℕ → Bool → Type 0) → (ℕ → Bool) → ℕ → ℕ → Type 0
+Tests answers p from to = (b : ℕ) → from ≤ b → b < to → (r : Bool) → answers b r → r ≡ p b
 
--- A system block has a block below it.
-abbrev pub Ready : Region → ℕ → Type 0
-Ready System b = 1 ≤ b
-Ready Hidden b = Unit {0}
-Ready User b = Unit {0}
-
-unfoldable pub region_rows : List ℕ → Verdict
-region_rows table = unless_refused (system_row table) (unless_refused (hidden_row table) (user_row table))
+-- The number at the first block of a range that passes the test p.
+unfoldable pub range_row : ℕ → (ℕ → Bool) → ℕ → ℕ → Verdict
+range_row n p from to = row_over n Block (lowest p from (to - from))

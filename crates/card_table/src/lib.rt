@@ -1,15 +1,12 @@
 #![tactic(auto)]
 
 // The root block and the table of a card: refusals 21 to 25, the table's entries and their classes.
-ghost use Rattle.std.specs.Prelude.{◌≡◌, true, ◌+◌, ◌-◌, ◌≤◌, ◌<◌, length};
-ghost use Rattle.std.specs.Prelude.{Some};
-ghost use Rattle.words.specs.Lists.{any_of, numbers_from};
-ghost use Rattle.words.specs.Search.{lowest};
-ghost use Rattle.verdicts.specs.Rows.{unless_refused, result_verdict};
+ghost use Rattle.std.specs.Prelude.{◌≡◌, ℕ, Bool, ◌+◌, ◌-◌, ◌≤◌, ◌<◌};
+ghost use Rattle.verdicts.specs.Rows.{rule_number, result_verdict};
 ghost use Rattle.card_model.specs.Layout.{card_length, root_of, fat_place, table_of};
-ghost use Rattle.card_model.specs.Table.{magic_row, fields_row, right_fields, fat_entry, link_of, system_entry, free_or_damaged, is_bad};
+ghost use Rattle.card_model.specs.Table.{magic_row, fields_row, right_fields, fat_entry, link_of, system_entry, free_or_damaged, is_bad, system_row, hidden_row, user_row};
 ghost use Rattle.card_model.specs.Calls.{table_rows};
-ghost use Rattle.card_table.specs.Regions.{wrong_in, Ready, region_rows};
+ghost use Rattle.card_table.specs.Regions.{Tests, range_row};
 
 use card_model::{LENGTH, Link};
 use verdicts::{CardError, Place, Rule};
@@ -18,14 +15,6 @@ use words::word;
 const ROOT: usize = 130560;
 
 const TABLE: usize = 130048;
-
-// The blocks that a row of the table of numbers is about: 241 to 255, 200 to 240, 0 to 199.
-#[derive(Clone, Copy)]
-pub(crate) enum Region {
-    System,
-    Hidden,
-    User,
-}
 
 // Where the table's entry of a block begins.
 pub fn fat_place(b: usize) -> usize
@@ -75,25 +64,13 @@ pub fn classify(e: usize) -> Link
 pub fn free_or_damaged(link: Link) -> bool
     ensures { result ≡ free_or_damaged link }
 {
-    match link {
-        Link::Free => true,
-        Link::Damaged => true,
-        Link::Last => false,
-        Link::Next(_) => false,
-        Link::Bad => false,
-    }
+    matches!(link, Link::Free | Link::Damaged)
 }
 
 fn is_bad(link: Link) -> bool
     ensures { result ≡ is_bad link }
 {
-    match link {
-        Link::Free => false,
-        Link::Damaged => false,
-        Link::Last => false,
-        Link::Next(_) => false,
-        Link::Bad => true,
-    }
+    matches!(link, Link::Bad)
 }
 
 // What the table has to say of a system block.
@@ -107,65 +84,42 @@ fn system_entry(b: usize) -> usize
     b - 1
 }
 
-fn is_wrong(card: &[u8; LENGTH], region: Region, b: usize) -> bool
-    requires below { b < 256 }
-    requires ready { Ready region b }
-    ensures { result ≡ wrong_in region (table_of card.now) b }
+// The refusal of the first wrong block of a range, which is looked for only where there is one. The first loop has no early exit:
+// several entries go in one step.
+fn blocks_row<F: Fn(usize) -> bool>(rule: Rule, from: usize, to: usize, wrong: F) -> Result<(), CardError>
+    requires { (b : ℕ) → from ≤ b → b < to → F.pre wrong b }
+    ensures { (p : ℕ → Bool) → Tests (F.post wrong) p from to → result_verdict result ≡ range_row (rule_number rule) p from to }
 {
-    let e = fat_entry(card, b);
-    match region {
-        Region::System => e != system_entry(b),
-        Region::Hidden => !free_or_damaged(classify(e)),
-        Region::User => is_bad(classify(e)),
+    let mut any = false;
+    for b in from..to {
+        any = any | wrong(b);
     }
-}
-
-// Whether a block of a range is wrong. The loop has no early exit: several entries go in one step.
-fn any_wrong(card: &[u8; LENGTH], region: Region, from: usize, to: usize) -> bool
-    requires range { to ≤ 256 }
-    requires ready { Ready region from }
-    ensures { result ≡ any_of (wrong_in region (table_of card.now)) (numbers_from from (to - from)) }
-{
-    let mut wrong = false;
-    let mut b = from;
-    while b < to {
-        wrong = wrong | is_wrong(card, region, b);
-        b += 1;
-    }
-    wrong
-}
-
-// The first wrong block of a range, which is looked for only where there is one.
-fn first_wrong(card: &[u8; LENGTH], region: Region, from: usize, to: usize) -> usize
-    requires range { to ≤ 256 }
-    requires ready { Ready region from }
-    requires from_value { any_of (wrong_in region (table_of card.now)) (numbers_from from (to - from)) ≡ true }
-    ensures { lowest (wrong_in region (table_of card.now)) from (to - from) ≡ Some result }
-{
-    let mut b = from;
-    while b < to {
-        if is_wrong(card, region, b) {
-            return b;
+    if any {
+        for b in from..to {
+            if wrong(b) {
+                return Err(rule.at(Place::Block(b)));
+            }
         }
-        b += 1;
-    }
-    to
-}
-
-// Refusals 23 to 25. The table is read where it stands.
-fn regions_verdict(card: &[u8; LENGTH]) -> Result<(), CardError>
-    ensures { result_verdict result ≡ region_rows (table_of card.now) }
-{
-    if any_wrong(card, Region::System, 241, 256) {
-        return Err(Rule::SystemEntry.at(Place::Block(first_wrong(card, Region::System, 241, 256))));
-    }
-    if any_wrong(card, Region::Hidden, 200, 241) {
-        return Err(Rule::HiddenEntry.at(Place::Block(first_wrong(card, Region::Hidden, 200, 241))));
-    }
-    if any_wrong(card, Region::User, 0, 200) {
-        return Err(Rule::UserEntry.at(Place::Block(first_wrong(card, Region::User, 0, 200))));
     }
     Ok(())
+}
+
+fn system_row(card: &[u8; LENGTH]) -> Result<(), CardError>
+    ensures { result_verdict result ≡ system_row (table_of card.now) }
+{
+    blocks_row(Rule::SystemEntry, 241, 256, |b| fat_entry(card, b) != system_entry(b))
+}
+
+fn hidden_row(card: &[u8; LENGTH]) -> Result<(), CardError>
+    ensures { result_verdict result ≡ hidden_row (table_of card.now) }
+{
+    blocks_row(Rule::HiddenEntry, 200, 241, |b| !free_or_damaged(classify(fat_entry(card, b))))
+}
+
+fn user_row(card: &[u8; LENGTH]) -> Result<(), CardError>
+    ensures { result_verdict result ≡ user_row (table_of card.now) }
+{
+    blocks_row(Rule::UserEntry, 0, 200, |b| is_bad(classify(fat_entry(card, b))))
 }
 
 fn right_fields(root: &[u8; 512]) -> bool
@@ -178,13 +132,18 @@ fn right_fields(root: &[u8; 512]) -> bool
         & (word(root, 0x50) == 200)
 }
 
-// Refusals 21 and 22.
-fn root_verdict(root: &[u8; 512]) -> Result<(), CardError>
-    ensures { result_verdict result ≡ unless_refused (magic_row root.now) (fields_row root.now) }
+fn magic_row(root: &[u8; 512]) -> Result<(), CardError>
+    ensures { result_verdict result ≡ magic_row root.now }
 {
     if root[0..16] != [0x55u8; 16] {
         return Err(Rule::RootMagic.at(Place::Block(255)));
     }
+    Ok(())
+}
+
+fn fields_row(root: &[u8; 512]) -> Result<(), CardError>
+    ensures { result_verdict result ≡ fields_row root.now }
+{
     if !right_fields(root) {
         return Err(Rule::RootFields.at(Place::Block(255)));
     }
@@ -197,11 +156,15 @@ fn root_block(card: &[u8; LENGTH]) -> &[u8; 512]
     card[ROOT..LENGTH].as_array().unwrap()
 }
 
-// Refusals 21 to 25.
-#[tactic(auto, using(crate::proofs::TableLaws::root_refused, crate::proofs::TableLaws::root_passed))]
+// Refusals 21 to 25. The table is read where it stands.
+#[tactic(auto, using(crate::proofs::TableLaws::row_refused, crate::proofs::TableLaws::row_passed), unfolding(card_model::specs::Calls::table_rows))]
 pub fn table_verdict(card: &[u8; LENGTH]) -> Result<(), CardError>
     ensures { result_verdict result ≡ table_rows (root_of card.now) (table_of card.now) }
 {
-    root_verdict(root_block(card))?;
-    regions_verdict(card)
+    let root = root_block(card);
+    magic_row(root)?;
+    fields_row(root)?;
+    system_row(card)?;
+    hidden_row(card)?;
+    user_row(card)
 }
