@@ -33,22 +33,13 @@ part-word card at =
     rw e
     (rw (get_or-take 2 (drop at card) 0 0 (omega arith), get_or-take 2 (drop at card) (0 + 1) 0 (omega arith), get_or-drop at card 0 0, get_or-drop at card (0 + 1) 0, z))
 
--- entries that are read one after the other
-abbrev pub ReadTo : List ℕ → List ℕ → ℕ → Type 0
-ReadTo card table end = (length table ≡ 256) × ((j : ℕ) → j < end → get_or table j 0 ≡ fat_entry (table_of card) j)
-
-pub read_next : (card table : List ℕ) (b : ℕ) → b < 256 → ReadTo card table b → (x : ℕ) → x ≡ fat_entry (table_of card) b → ReadTo card (set table b x) (b + 1)
-read_next card table b l h x q = (length-set table b x ∙ h.0, λ j k. go j k (ℕ_discrete j b))
-  where
-    go : (j : ℕ) → j < b + 1 → Dec (j ≡ b) → get_or (set table b x) j 0 ≡ fat_entry (table_of card) j
-    go j k (yes d) = rw d (get_or-set_same table b x 0 (omega (arith, h.0)) ∙ q)
-    go j k (no d) = get_or-set_other table b j x 0 d ∙ h.1 j (omega (arith, d))
-
-pub read_all : (card table : List ℕ) (b : ℕ) → 256 ≤ b → ReadTo card table b → table ≡ table_of card
+-- a list of 256 numbers is the table where each is an entry of it
+pub table-is : (card table : List ℕ) → length table ≡ 256 → ((b : ℕ) → b < 256 → get_or table b 0 ≡ fat_entry (table_of card) b) → table ≡ table_of card
 unfolding fat_entry table_of
-read_all card table b e h =
-    let n : length (map (λ i. word card (fat_place i)) (numbers_from 0 256)) ≡ 256 = length-map (numbers_from 0 256) (λ i. word card (fat_place i)) ∙ numbers-length 0 256 in
-    ext_get_or 0 table (map (λ i. word card (fat_place i)) (numbers_from 0 256)) (h.0 ∙ sym n) (λ i k. h.1 i (omega (arith, h.0)))
+table-is card table n h =
+    let entries = map (λ b. word card (fat_place b)) (numbers_from 0 256) in
+    let m : length entries ≡ 256 = length-map (numbers_from 0 256) (λ b. word card (fat_place b)) ∙ numbers-length 0 256 in
+    ext_get_or 0 table entries (n ∙ sym m) (λ b k. h b (omega (arith, n)))
 
 -- the blocks of a range that the tests of a row pass
 abbrev pub NoneWrong : (ℕ → Bool) → ℕ → ℕ → Type 0

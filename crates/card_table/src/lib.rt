@@ -40,10 +40,8 @@ pub fn read_table(card: &[u8; LENGTH]) -> [u16; 256]
     ensures { result ≡ table_of card.now }
 {
     let mut table = [0u16; 256];
-    let mut b = 0;
-    while b < 256 {
+    for b in 0..256 {
         table[b] = fat_entry(card, b) as u16;
-        b += 1;
     }
     table
 }

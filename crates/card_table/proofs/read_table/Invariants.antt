@@ -1,10 +1,8 @@
 -- The entries so far are the table's.
-use Prim.Native.Nat.{◌-◌}
-use Rattle.card_table.proofs.TableLaws.{ReadTo}
+use Rattle.std.proofs.Common.{◌≡◌, ℕ, ◌<◌, get_or, length}
+use Rattle.card_model.specs.Layout.{table_of}
+use Rattle.card_model.specs.Table.{fat_entry}
 use Rattle.card_table.proofs.read_table.Given as goal
 
 abbrev pub invariant-loop-b : goal.invariant-loop-b
-invariant-loop-b l = ReadTo l.card l.table l.b
-
-abbrev pub decreases-loop-b : goal.decreases-loop-b
-decreases-loop-b l = 256 - l.b
+invariant-loop-b l = record { long : length l.table ≡ 256; read : (k : ℕ) → k < l.b → get_or l.table k 0 ≡ fat_entry (table_of l.card) k }
