@@ -1,6 +1,6 @@
 -- The table as the card's bytes give it, and its rows one after the other. Assumes nothing.
 use Prim.Native.Nat.{ℕ, ◌+◌, ◌-◌, ◌≤◌, ◌<◌}
-use mathlib.Core.Path.{◌≡◌, sym, ◌∙◌}
+use mathlib.Core.Path.{◌≡◌, sym, ap, ◌∙◌}
 use mathlib.Core.Bool.{Bool, true, false, not}
 use lib.Dec.{eqb}
 use lib.Pointwise.{pointwise}
@@ -8,8 +8,8 @@ use mathlib.Core.List.{List, map}
 use Rattle.std.specs.Prelude.{None, Some}
 use native.Mathlib.Omega.{arith}
 use native.Mathlib.Decide.{ℕ_discrete}
-use lib.ListN.{replicate, length, get_or, take, drop, set, length-set, length-map}
-use lib.Seq.{get_or-take, get_or-drop, get_or-set_same, get_or-set_other, ext_get_or}
+use lib.ListN.{replicate, length, get_or, take, drop, length-map}
+use lib.Seq.{get_or-take, get_or-drop, ext_get_or}
 use Rattle.words.specs.Lists.{numbers_from}
 use Rattle.words.specs.Search.{lowest}
 use Rattle.words.specs.Words.{word}
@@ -23,15 +23,15 @@ use Rattle.verdicts.specs.Rows.{done, row_at, unless_refused, error_verdict}
 use Rattle.verdicts.proofs.RowLaws.{error_first, passed_first}
 use Rattle.card_model.specs.Layout.{fat_place, table_of}
 use Rattle.card_model.specs.Table.{fat_entry, magic_row}
+use Rattle.card_model.proofs.TableLaws.{fat-is}
 
 -- of an entry's two bytes, as a part
-pub part-word : (card : List ℕ) (at : ℕ) → word (take (at + 2 - at) (drop at card)) 0 ≡ word card at
+pub entry_word : (card : List ℕ) (b at : ℕ) → b < 256 → at ≡ fat_place b → word (take 2 (drop at card)) 0 ≡ fat_entry (table_of card) b
 unfolding word
-part-word card at =
-    let e : at + 2 - at ≡ 2 = omega arith in
+entry_word card b at h e =
     let z : at + 0 ≡ at = omega arith in
-    rw e
-    (rw (get_or-take 2 (drop at card) 0 0 (omega arith), get_or-take 2 (drop at card) (0 + 1) 0 (omega arith), get_or-drop at card 0 0, get_or-drop at card (0 + 1) 0, z))
+    rw (get_or-take 2 (drop at card) 0 0 (omega arith), get_or-take 2 (drop at card) (0 + 1) 0 (omega arith), get_or-drop at card 0 0, get_or-drop at card (0 + 1) 0, z)
+    (ap (word card) e ∙ sym (fat-is card b h))
 
 -- a list of 256 numbers is the table where each is an entry of it
 pub table-is : (card table : List ℕ) → length table ≡ 256 → ((b : ℕ) → b < 256 → get_or table b 0 ≡ fat_entry (table_of card) b) → table ≡ table_of card
@@ -60,9 +60,9 @@ module _ (p : ℕ → Bool) (from : ℕ) where
   none_wrong to h = lowest-nothing p from (to - from) (λ k x y. h k x (omega arith))
 
 -- row 21 by a test of the bytes
-pub magic-tested : (root : List ℕ) (t : Bool) → t ≡ not (pointwise eqb (take 16 root) (replicate 16 85)) → magic_row root ≡ row_at 21 (Block 255) t
+pub magic_tested : (root : List ℕ) (t : Bool) → t ≡ not (pointwise eqb (take 16 root) (replicate 16 85)) → magic_row root ≡ row_at 21 (Block 255) t
 unfolding magic_row
-magic-tested root t e = rw (e, pointwise-same (take 16 root) (replicate 16 85))
+magic_tested root t e = rw (e, pointwise-same (take 16 root) (replicate 16 85))
 
 -- past rows 21 and 22, and past one row more, by what a function answered of them
 module _ (v later : Verdict) where

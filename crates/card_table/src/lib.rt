@@ -17,6 +17,7 @@ const ROOT: usize = 130560;
 const TABLE: usize = 130048;
 
 // Where the table's entry of a block begins.
+#[tactic(auto, unfolding(card_model::specs::Layout::card_length, card_model::specs::Layout::fat_place))]
 pub fn fat_place(b: usize) -> usize
     requires { b < 256 }
     ensures { (result ≡ fat_place b) × (result + 2 ≤ card_length) }
@@ -25,14 +26,13 @@ pub fn fat_place(b: usize) -> usize
 }
 
 // The table's entry of a block, in one load: from a part of its own.
-#[tactic(auto, unfolding(card_model::specs::Layout::card_length))]
+#[tactic(auto, using(crate::proofs::TableLaws::entry_word), unfolding(card_model::specs::Layout::card_length))]
 pub fn fat_entry(card: &[u8; LENGTH], b: usize) -> usize
     requires { b < 256 }
     ensures { (result ≡ fat_entry (table_of card.now) b) × (result < 65536) }
 {
     let at = fat_place(b);
-    let end = at + 2;
-    word(&card[at..end], 0)
+    word(&card[at..at + 2], 0)
 }
 
 // The whole table, each number in its two bytes.
@@ -40,13 +40,14 @@ pub fn read_table(card: &[u8; LENGTH]) -> [u16; 256]
     ensures { result ≡ table_of card.now }
 {
     let mut table = [0u16; 256];
-    for b in 0..256 {
-        table[b] = fat_entry(card, b) as u16;
+    for (b, entry) in table.iter_mut().enumerate() {
+        *entry = fat_entry(card, b) as u16;
     }
     table
 }
 
 // The class of a table entry.
+#[tactic(auto, unfolding(card_model::specs::Table::link_of))]
 pub fn classify(e: usize) -> Link
     ensures { result ≡ link_of e }
 {
@@ -72,6 +73,7 @@ fn is_bad(link: Link) -> bool
 }
 
 // What the table has to say of a system block.
+#[tactic(auto, unfolding(card_model::specs::Table::system_entry))]
 fn system_entry(b: usize) -> usize
     requires { 1 ≤ b }
     ensures { result ≡ system_entry b }
@@ -90,7 +92,7 @@ fn blocks_row<F: Fn(usize) -> bool>(rule: Rule, from: usize, to: usize, wrong: F
 {
     let mut any = false;
     for b in from..to {
-        any = any | wrong(b);
+        any |= wrong(b);
     }
     if any {
         for b in from..to {
@@ -120,6 +122,7 @@ fn user_row(card: &[u8; LENGTH]) -> Result<(), CardError>
     blocks_row(Rule::UserEntry, 0, 200, |b| is_bad(classify(fat_entry(card, b))))
 }
 
+#[tactic(auto, unfolding(card_model::specs::Table::right_fields))]
 fn right_fields(root: &[u8; 512]) -> bool
     ensures { result ≡ right_fields root.now }
 {
@@ -130,6 +133,7 @@ fn right_fields(root: &[u8; 512]) -> bool
         & (word(root, 0x50) == 200)
 }
 
+#[tactic(auto, using(crate::proofs::TableLaws::magic_tested))]
 fn magic_row(root: &[u8; 512]) -> Result<(), CardError>
     ensures { result_verdict result ≡ magic_row root.now }
 {
@@ -139,6 +143,7 @@ fn magic_row(root: &[u8; 512]) -> Result<(), CardError>
     Ok(())
 }
 
+#[tactic(auto, unfolding(card_model::specs::Table::fields_row))]
 fn fields_row(root: &[u8; 512]) -> Result<(), CardError>
     ensures { result_verdict result ≡ fields_row root.now }
 {
@@ -148,6 +153,7 @@ fn fields_row(root: &[u8; 512]) -> Result<(), CardError>
     Ok(())
 }
 
+#[tactic(auto, unfolding(card_model::specs::Layout::root_of, card_model::specs::Layout::block_at))]
 fn root_block(card: &[u8; LENGTH]) -> &[u8; 512]
     ensures { result.now ≡ root_of card.now }
 {
