@@ -64,7 +64,7 @@ pub magic_tested : (root : List ℕ) (t : Bool) → t ≡ not (pointwise eqb (ta
 unfolding magic_row
 magic_tested root t e = rw (e, pointwise-same (take 16 root) (replicate 16 85))
 
--- past rows 21 and 22, and past one row more, by what a function answered of them
+-- a row and the later ones, by what a function answered of it
 module _ (v later : Verdict) where
   pub row_refused : (e : CardError) → error_verdict e ≡ v → error_verdict e ≡ unless_refused v later
   row_refused e q = sym (error_first e v later q)

@@ -86,7 +86,12 @@ fn system_entry(b: usize) -> usize
 
 // The refusal of the first wrong block of a range, which is looked for only where there is one. The first loop has no early exit:
 // several entries go in one step.
-fn blocks_row<F: Fn(usize) -> bool>(rule: Rule, from: usize, to: usize, wrong: F) -> Result<(), CardError>
+fn blocks_row<F: Fn(usize) -> bool>(
+    rule: Rule,
+    from: usize,
+    to: usize,
+    wrong: F,
+) -> Result<(), CardError>
     requires { (b : ℕ) → from ≤ b → b < to → F.pre wrong b }
     ensures { (p : ℕ → Bool) → Tests (F.post wrong) p from to → result_verdict result ≡ range_row (rule_number rule) p from to }
 {
@@ -107,19 +112,34 @@ fn blocks_row<F: Fn(usize) -> bool>(rule: Rule, from: usize, to: usize, wrong: F
 fn system_row(card: &[u8; LENGTH]) -> Result<(), CardError>
     ensures { result_verdict result ≡ system_row (table_of card.now) }
 {
-    blocks_row(Rule::SystemEntry, 241, 256, |b| fat_entry(card, b) != system_entry(b))
+    blocks_row(
+        Rule::SystemEntry,
+        241,
+        256,
+        |b| fat_entry(card, b) != system_entry(b),
+    )
 }
 
 fn hidden_row(card: &[u8; LENGTH]) -> Result<(), CardError>
     ensures { result_verdict result ≡ hidden_row (table_of card.now) }
 {
-    blocks_row(Rule::HiddenEntry, 200, 241, |b| !free_or_damaged(classify(fat_entry(card, b))))
+    blocks_row(
+        Rule::HiddenEntry,
+        200,
+        241,
+        |b| !free_or_damaged(classify(fat_entry(card, b))),
+    )
 }
 
 fn user_row(card: &[u8; LENGTH]) -> Result<(), CardError>
     ensures { result_verdict result ≡ user_row (table_of card.now) }
 {
-    blocks_row(Rule::UserEntry, 0, 200, |b| is_bad(classify(fat_entry(card, b))))
+    blocks_row(
+        Rule::UserEntry,
+        0,
+        200,
+        |b| is_bad(classify(fat_entry(card, b))),
+    )
 }
 
 #[tactic(auto, unfolding(card_model::specs::Table::right_fields))]

@@ -28,7 +28,8 @@ pub returns : goal.returns
 unfolding range_row
 returns g c p t =
     let none : NoneWrong p c.args.from c.args.to =
-    elim c.if-any.branch
-    [ then-any+else-loop-b-then-any-test w ↦ λ k x y. w.loop-b-then-any.invariant p t k x (omega arith)
-    | else-any w ↦ λ k x y. c.loop-b.invariant p t w.if-any.false k x (omega arith) ] in
+    elim c.if-any.branch [
+      | then-any+else-loop-b-then-any-test w ↦ λ k x y. w.loop-b-then-any.invariant p t k x (omega arith)
+      | else-any w ↦ λ k x y. c.loop-b.invariant p t w.if-any.false k x (omega arith)
+    ] in
     rw (none_wrong p c.args.from c.args.to none)
