@@ -1,17 +1,18 @@
 -- The list of the used entries: how it grows, and what a walk along it finds. Assumes nothing.
 use Prim.Native.Nat.{ℕ, zero, suc, ◌+◌, ◌-◌, ◌≤◌, ◌<◌}
 use mathlib.Core.Path.{◌≡◌, refl, sym, ap, ◌∙◌}
-use mathlib.Core.Bool.{Bool, true, false, true≢false}
+use mathlib.Core.Bool.{Bool, true, false, cond, true≢false}
 use mathlib.Core.List.{List}
 use Rattle.std.specs.Prelude.{Option, None, Some}
 use native.Mathlib.Omega.{arith}
 use mir.Val.{bool_byte}
 use native.Mathlib.Decide.{ℕ_discrete}
 use native.Mathlib.Numerals.{add-one}
-use lib.Dec.{ltb}
-use lib.ListN.{length, get_or, take, set, length-set}
-use lib.Seq.{length-take-le, get_or-take, get_or-set_same, get_or-set_other}
-use borrow.Author.Tests.{ltb-true, ltb-false}
+use lib.Dec.{leb, ltb}
+use lib.ListN.{length, get_or, take, drop, set, length-set, drop_of_length-le}
+use lib.Seq.{drop-cons, length-take-le, get_or-take, get_or-set_same, get_or-set_other}
+use borrow.Author.Tests.{ltb-true, ltb-false, leb-true, leb-false}
+use Rattle.std.specs.List.{find}
 use Rattle.words.specs.Search.{lowest}
 use Rattle.words.proofs.SearchLaws.{lowest-is, lowest-nothing}
 use Rattle.words.proofs.LoopLaws.{lowest-here, lowest-next, lowest-end}
@@ -212,3 +213,48 @@ module _ (directory : List (List ℕ)) (p : ℕ → Bool) (unused : (i : ℕ) �
   pub found_none : (j : ℕ) → j ≡ count → first_from p (reached used j) ≡ None
   unfolding first_from
   found_none j z = stays-to-end directory (first_from p) (λ k u. first-same p k (unused k u)) l j z
+
+-- ---- what a search along the list finds
+
+pub find-end : (p : ℕ → Bool) (used : List ℕ) (n : ℕ) → length used ≤ n → find p (drop n used) ≡ None
+find-end p used n h = rw (drop_of_length-le used h)
+
+pub find-next : (p : ℕ → Bool) (used : List ℕ) (n : ℕ) → n < length used
+    → find p (drop n used) ≡ cond (p (get_or used n 0)) (Some (get_or used n 0)) (find p (drop (n + 1) used))
+find-next p used n h = rw (add-one n, drop-cons used n 0 h)
+
+module _ {directory : List (List ℕ)} {used : List ℕ} (l : Listed directory 208 used (length used)) where
+  -- for what no unused entry is
+  module _ (p q : ℕ → Bool) (unused : (i : ℕ) → is_used (entry_at directory i) ≡ false → p i ≡ false)
+      (same : (i : ℕ) → is_used (entry_at directory i) ≡ true → q i ≡ p i) where
+    found-from : (k n : ℕ) → n + k ≡ length used → find q (drop n used) ≡ first_from p (reached used n)
+    found-from zero n e = find-end q used n (omega arith) ∙ sym (found_none directory p unused l n (omega arith))
+    found-from (suc k) n e =
+        let h : n < length used = omega arith in
+        find-next q used n h ∙ go (get_or used n 0) refl h (l.each n h).is_used_lem (found-from k (n + 1) (omega arith)) (p (get_or used n 0)) refl
+      where
+        go : (i : ℕ) → i ≡ get_or used n 0 → n < length used → is_used (entry_at directory i) ≡ true → find q (drop (n + 1) used) ≡ first_from p (reached used (n + 1))
+            → (t : Bool) → p i ≡ t → cond (q i) (Some i) (find q (drop (n + 1) used)) ≡ first_from p (reached used n)
+        go i d h u ih true t = rw (same i u, t) (sym (found_here directory p unused l n i d h t))
+        go i d h u ih false t = rw (same i u, t) (ih ∙ sym (found-later directory p unused l n i d h t))
+
+    pub found-listed : find q used ≡ first_from p 0
+    found-listed = found-from (length used) 0 (omega arith)
+
+  -- for a number from `start` on
+  module _ (start : ℕ) where
+    first-from : (k n : ℕ) → n + k ≡ length used → reached used n ≤ start → find (leb start) (drop n used) ≡ first_used directory start
+    first-from zero n e b = find-end (leb start) used n (omega arith) ∙ sym (none-listed l start n b (omega arith))
+    first-from (suc k) n e b =
+        let h : n < length used = omega arith in
+        find-next (leb start) used n h ∙ go (get_or used n 0) refl h (first-from k (n + 1) (omega arith)) (leb start (get_or used n 0)) refl
+      where
+        go : (i : ℕ) → i ≡ get_or used n 0 → n < length used → (reached used (n + 1) ≤ start → find (leb start) (drop (n + 1) used) ≡ first_used directory start)
+            → (t : Bool) → leb start i ≡ t → cond t (Some i) (find (leb start) (drop (n + 1) used)) ≡ first_used directory start
+        go i d h ih true t = sym (first-listed l start n b i d h (leb-true start i t))
+        go i d h ih false t =
+            let low : i < start = leb-false start i t in
+            ih (rw (← reached-next used n i d) (omega arith))
+
+    pub first-found : find (leb start) used ≡ first_used directory start
+    first-found = first-from (length used) 0 (omega arith) (omega arith)

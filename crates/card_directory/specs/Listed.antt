@@ -1,6 +1,6 @@
 -- The list of the used entries of a directory.
 -- Assumes nothing.
-use Rattle.std.specs.Prelude.{ℕ, zero, suc, ◌≤◌, ◌<◌, ◌≡◌, true, false, List, length, get_or}
+use Rattle.std.specs.Prelude.{ℕ, zero, suc, ◌≤◌, ◌<◌, ◌≡◌, Bool, true, false, List, length, get_or}
 use Rattle.card_model.specs.Entries.{is_used, entry_at}
 
 -- i is the first used entry from `start` on, and before `end`.
@@ -22,3 +22,7 @@ pub record Listed (directory : List (List ℕ)) (end : ℕ) (used : List ℕ) (c
   pub fits : count ≤ end
   pub each : (j : ℕ) → j < count → NextUsed directory (reached used j) end (get_or used j 0)
   pub rest : (k : ℕ) → reached used count ≤ k → k < end → is_used (entry_at directory k) ≡ false
+
+-- A test whose answers these are answers as p at each number of the list.
+abbrev pub TestsListed : (ℕ → Bool → Type 0) → (ℕ → Bool) → List ℕ → Type 0
+TestsListed answers p used = (j : ℕ) → j < length used → (r : Bool) → answers (get_or used j 0) r → r ≡ p (get_or used j 0)

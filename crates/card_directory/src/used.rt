@@ -6,6 +6,7 @@ ghost use Rattle.card_model.specs.Entries.{entry_row};
 ghost use Rattle.card_directory.specs.Listed.{Listed};
 
 use crate::entry::{entry_at, is_used, wrong_entry};
+use crate::search::find_used;
 use card_model::LENGTH;
 use std::marker::Model;
 use verdicts::{CardError, Place, Rule};
@@ -63,13 +64,8 @@ pub fn entry_row(card: &[u8; LENGTH], used: &[u8]) -> Result<(), CardError>
     requires { Listed (directory_of card.now) 208 used.now (length used.now) }
     ensures { result_verdict result ≡ entry_row (directory_of card.now) }
 {
-    let mut j = 0;
-    while j < used.len() {
-        let i = usize::from(used[j]);
-        if wrong_entry(entry_at(card, i)) {
-            return Err(Rule::DirectoryEntry.at(Place::Entry(i)));
-        }
-        j += 1;
+    match find_used(used, |i| wrong_entry(entry_at(card, i))) {
+        Some(i) => Err(Rule::DirectoryEntry.at(Place::Entry(i))),
+        None => Ok(()),
     }
-    Ok(())
 }

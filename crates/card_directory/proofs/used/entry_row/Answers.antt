@@ -1,27 +1,31 @@
-use mathlib.Core.Path.{sym, ap, ◌∙◌}
-use native.Mathlib.Omega.{arith}
+use Rattle.std.proofs.Common.{rules, refl, ap, ◌∙◌, ◌<◌, ℕ, Bool, List, get_or}
 use Rattle.verdicts.specs.declared.Place.TheVariants.{Entry}
 use Rattle.verdicts.specs.Rows.{row_over}
-use Rattle.card_model.specs.Entries.{wrong_entry, entry_row}
+use Rattle.card_model.specs.Layout.{directory_of}
+use Rattle.card_model.specs.Entries.{entry_at, wrong_entry, entry_row}
 use Rattle.card_directory.proofs.DirectoryLaws.{unused-right}
-use Rattle.card_directory.proofs.ListedLaws.{first_from, found_here, found-later, found_none}
-use Rattle.card_directory.proofs.used.entry_row.Invariants.{wrong}
+use Rattle.card_directory.proofs.ListedLaws.{first_from, found-listed}
 use Rattle.card_directory.proofs.used.entry_row.Goals as goal
 
-pub returns-then-wrong_entry : goal.returns-then-wrong_entry
-unfolding entry_row first_from
-returns-then-wrong_entry c =
-    let q = sym (c.wrong_entry.ensures ∙ ap wrong_entry c.entry_at.ensures) ∙ c.if-wrong_entry.true in
-    let f = found_here _ (wrong c.args.card.now) (unused-right _) c.requires c.loop-j.j _ c.from-i.ensures (omega arith) q in
-    rw c.at.ensures (ap (row_over _ Entry) (sym (c.loop-j.invariant.1 ∙ f)))
+-- whether an entry breaks rule 26
+abbrev wrong : List ℕ → ℕ → Bool
+wrong card i = wrong_entry (entry_at (directory_of card) i)
 
-pub loop-j-preserved : goal.loop-j-preserved
-loop-j-preserved c =
-    let q = sym (c.wrong_entry.ensures ∙ ap wrong_entry c.entry_at.ensures) ∙ c.if-wrong_entry.false in
-    (omega arith, c.loop-j.invariant.1 ∙ found-later _ (wrong c.args.card.now) (unused-right _) c.requires c.loop-j.j _ c.from-i.ensures (omega arith) q)
+pub find_used-requires : goal.find_used-requires
+find_used-requires c j h =
+    let below : get_or c.args.used.now j 0 < 208 = (c.requires.each j h).before_end in
+    search rules
 
-pub returns : goal.returns
+pub returns-in-Some : goal.returns-in-Some
 unfolding entry_row first_from
-returns c =
-    let f = found_none _ (wrong c.args.card.now) (unused-right _) c.requires c.loop-j.j (omega arith) in
-    ap (row_over _ Entry) (sym (c.loop-j.invariant.1 ∙ f))
+returns-in-Some c =
+    let card = c.args.card.now in
+    let found = c.in-Some.ensures (wrong card) (λ j h r q. search rules) ∙ found-listed c.requires (wrong card) (wrong card) (unused-right (directory_of card)) (λ i u. refl) in
+    rw c.at.ensures (ap (row_over 26 Entry) found)
+
+pub returns-in-None : goal.returns-in-None
+unfolding entry_row first_from
+returns-in-None c =
+    let card = c.args.card.now in
+    let found = c.in-None.ensures (wrong card) (λ j h r q. search rules) ∙ found-listed c.requires (wrong card) (wrong card) (unused-right (directory_of card)) (λ i u. refl) in
+    ap (row_over 26 Entry) found
