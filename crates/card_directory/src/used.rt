@@ -34,27 +34,15 @@ impl UsedEntries {
     }
 }
 
-// Entry i is put behind the list, and stays there where it is used: the count that is answered has it then. No step depends on
-// whether it is.
-fn list_entry(card: &[u8; LENGTH], used: &mut [u8; 208], count: usize, i: usize) -> usize
-    requires below { i < 208 }
-    requires listed { Listed (directory_of card.now) i used.old count }
-    ensures { Listed (directory_of card.now) (i + 1) used.new result }
-{
-    used[count] = i as u8;
-    count + usize::from(is_used(entry_at(card, i)))
-}
-
-// Lists the used entries.
+// Lists the used entries. Each number is put behind the list, and stays there where its entry is used: no step depends on a branch.
 pub fn list_used(card: &[u8; LENGTH]) -> UsedEntries
     ensures { Listed (directory_of card.now) 208 result (length result) }
 {
     let mut numbers = [0u8; 208];
     let mut count: usize = 0;
-    let mut i = 0;
-    while i < 208 {
-        count = list_entry(card, &mut numbers, count, i);
-        i += 1;
+    for i in 0..208 {
+        numbers[count] = i as u8;
+        count += usize::from(is_used(entry_at(card, i)));
     }
     UsedEntries { numbers, count }
 }
