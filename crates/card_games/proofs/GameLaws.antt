@@ -5,7 +5,8 @@ use mathlib.Core.Bool.{Bool, true, false, not, ◌&&◌, ◌||◌, or-true, or-f
 use mathlib.Core.List.{List, ◌∷◌}
 use Rattle.std.specs.Prelude.{Option, None, Some, option_map}
 use native.Mathlib.Omega.{arith}
-use native.Mathlib.Numerals.{sub-one}
+use native.Mathlib.Numerals.{sub-one, add-one}
+use Rattle.std.specs.List.{list_any, list_all, range_with_len}
 use borrow.Author.Tests.{eqb-true, eq-eqb, ne_eqb, lt-ltb, le-ltb}
 use lib.Dec.{eqb, ltb}
 use Rattle.words.specs.Lists.{any_of, is_some, numbers_from}
@@ -107,26 +108,39 @@ module _ (directory : List (List ℕ)) (i : ℕ) {s : List ℕ} (e : s ≡ entry
         pub else-rising : size s ≤ 128 → not (rising (file_of table s)) ≡ breaks_game_rule table directory i
         else-rising h = sym (rule ∙ rw (g, a, eq-eqb (first_block s) 0 z, le-ltb 128 (size s) h, or-false))
 
--- ---- a chain that is passed block by block: it goes on here, and whether it rises from here on is whether it rises at all
+-- ---- what a chain of iterators over a range tells
 
-module _ (table : List ℕ) (blocks : ℕ) where
-  abbrev pub rises_from : ℕ → Bool
-  rises_from b = rising (or_empty (chain table (blocks - b) b))
+-- whether some number of a range passes
+pub any-list : (p : ℕ → Bool) (a n : ℕ) → list_any p (range_with_len a n) ≡ any_of p (numbers_from a n)
+any-list p a zero = refl
+any-list p a (suc n) = rw (add-one a, any-list p (suc a) n)
 
-  pub record Risen (b : ℕ) : Type 0 where
-    pub there : is_some (chain table (blocks - b) b) ≡ true
-    pub decides : rising (or_empty (chain table blocks 0)) ≡ rises_from b
+module _ (table : List ℕ) where
+  -- Block n is led to by the one below it.
+  abbrev pub led_to : ℕ → Bool
+  led_to n = leads_to (link_at table (n - 1)) (n - 1 + 1)
 
-  module _ (b : ℕ) (h : b + 1 < blocks) (r : Risen b) where
-    pub risen-next : leads_to (link_at table b) (b + 1) ≡ true → Risen (b + 1)
-    risen-next q =
-        let g = chain-goes-on table (blocks - b) b (omega arith) r.there in
-        let t = ap (λ (l : Link). leads_to l (b + 1)) (sym g.link_is) ∙ q in
-        let e : g.next ≡ b + 1 = eqb-true _ _ t in
-        let k : blocks - b - 1 ≡ blocks - (b + 1) = omega arith in
-        record { there = rw (← k, ← e) g.there; decides = r.decides ∙ g.rises ∙ rw (t, k, e) }
+  above : (n b : ℕ) → is_some (chain table (suc n) b) ≡ true → list_all led_to (range_with_len (b + 1) n) ≡ rising (or_empty (chain table (suc n) b))
+  above zero b s = sym (ends table 1 b (omega arith) s)
+  above (suc k) b s =
+      let g = chain-goes-on table (suc (suc k)) b (omega arith) s in
+      let e : suc (suc k) - 1 ≡ suc k = omega arith in
+      let h : b + 1 - 1 ≡ b = omega arith in
+      ap (λ (j : ℕ). leads_to (link_at table j) (j + 1) && list_all led_to (range_with_len (b + 1 + 1) k)) h
+      ∙ rw g.link_is (go (above k (b + 1)) g.next (eqb g.next (b + 1)) refl (rw e at g.there)) ∙ sym (rw e at g.rises)
+    where
+      go : (is_some (chain table (suc k) (b + 1)) ≡ true → list_all led_to (range_with_len (b + 1 + 1) k) ≡ rising (or_empty (chain table (suc k) (b + 1))))
+          → (n : ℕ) (t : Bool) → eqb n (b + 1) ≡ t → is_some (chain table (suc k) n) ≡ true
+          → (t && list_all led_to (range_with_len (b + 1 + 1) k)) ≡ (t && rising (or_empty (chain table (suc k) n)))
+      go rest n true q u =
+          let f : n ≡ b + 1 = eqb-true _ _ q in
+          rest (rw (← f) u) ∙ rw f
+      go rest n false q u = refl
 
-    pub risen-not : leads_to (link_at table b) (b + 1) ≡ false → rising (or_empty (chain table blocks 0)) ≡ false
-    risen-not q =
-        let g = chain-goes-on table (blocks - b) b (omega arith) r.there in
-        r.decides ∙ g.rises ∙ rw (ap (λ (l : Link). leads_to l (b + 1)) (sym g.link_is) ∙ q)
+  -- a chain rises if each of its blocks but the first is led to by the one below it
+  pub all-rise : (left : ℕ) → is_some (chain table left 0) ≡ true → list_all led_to (range_with_len 1 (left - 1)) ≡ rising (or_empty (chain table left 0))
+  unfolding chain
+  all-rise zero s = absurd (false≢true s)
+  all-rise (suc n) s =
+      let e : suc n - 1 ≡ n = omega arith in
+      ap (λ (k : ℕ). list_all led_to (range_with_len 1 k)) e ∙ above n 0 s

@@ -12,16 +12,16 @@ pub returns-then-breaks_game_rule : goal.returns-then-breaks_game_rule
 unfolding game_row first_from
 returns-then-breaks_game_rule c =
     let q = sym c.breaks_game_rule.ensures ∙ c.if-breaks_game_rule.true in
-    let f = found_here _ (breaks c.args.card.now) (unused-game _ _) c.requires.listed c.loop-j.j _ c.listed_at-i.ensures (omega arith) q in
-    c.refused_at.ensures ∙ ap (row_over _ Entry) (sym (c.loop-j.invariant.1 ∙ f))
+    let f = found_here _ (breaks c.args.card.now) (unused-game _ _) c.requires.listed c.loop-i.i-index _ c.from-i.ensures (omega arith) q in
+    rw c.at.ensures (ap (row_over _ Entry) (sym (c.loop-i.invariant ∙ f)))
 
-pub loop-j-preserved : goal.loop-j-preserved
-loop-j-preserved c =
+pub loop-i-preserved : goal.loop-i-preserved
+loop-i-preserved c =
     let q = sym c.breaks_game_rule.ensures ∙ c.if-breaks_game_rule.false in
-    (omega arith, c.loop-j.invariant.1 ∙ found-later _ (breaks c.args.card.now) (unused-game _ _) c.requires.listed c.loop-j.j _ c.listed_at-i.ensures (omega arith) q)
+    c.loop-i.invariant ∙ found-later _ (breaks c.args.card.now) (unused-game _ _) c.requires.listed c.loop-i.i-index _ c.from-i.ensures (omega arith) q
 
 pub returns : goal.returns
 unfolding game_row first_from
 returns c =
-    let f = found_none _ (breaks c.args.card.now) (unused-game _ _) c.requires.listed c.loop-j.j (omega arith) in
-    c.done.ensures ∙ ap (row_over _ Entry) (sym (c.loop-j.invariant.1 ∙ f))
+    let f = found_none _ (breaks c.args.card.now) (unused-game _ _) c.requires.listed c.loop-i.i-index (omega arith) in
+    ap (row_over _ Entry) (sym (c.loop-i.invariant ∙ f))

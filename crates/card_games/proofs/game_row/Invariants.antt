@@ -1,5 +1,5 @@
 -- What is found from here on is what is found from the start.
-use Prim.Native.Nat.{ℕ, ◌-◌, ◌≤◌}
+use Prim.Native.Nat.{ℕ}
 use mathlib.Core.Path.{◌≡◌}
 use mathlib.Core.Bool.{Bool}
 use mathlib.Core.List.{List}
@@ -12,8 +12,5 @@ use Rattle.card_games.proofs.game_row.Given as goal
 abbrev pub breaks : List ℕ → ℕ → Bool
 breaks card = breaks_game_rule (table_of card) (directory_of card)
 
-abbrev pub invariant-loop-j : goal.invariant-loop-j
-invariant-loop-j l = (l.j ≤ l.count) × (first_from (breaks l.card) 0 ≡ first_from (breaks l.card) (reached l.used l.j))
-
-abbrev pub decreases-loop-j : goal.decreases-loop-j
-decreases-loop-j l = l.count - l.j
+abbrev pub invariant-loop-i : goal.invariant-loop-i
+invariant-loop-i l = first_from (breaks l.card) 0 ≡ first_from (breaks l.card) (reached l.used l.i-index)
