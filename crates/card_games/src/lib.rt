@@ -16,6 +16,9 @@ use card_model::{LENGTH, Link};
 use card_table::{classify, fat_entry};
 use verdicts::{CardError, Place, Rule};
 
+// The most blocks of a game.
+const MOST: usize = 128;
+
 // Whether an entry before i is a game.
 fn game_before(card: &[u8; LENGTH], i: usize) -> bool
     requires { i ≤ 208 }
@@ -25,6 +28,7 @@ fn game_before(card: &[u8; LENGTH], i: usize) -> bool
 }
 
 // Whether the table leads from block b to the one above it.
+#[tactic(auto, unfolding(card_model::specs::Table::link_at))]
 fn leads_up(card: &[u8; LENGTH], b: usize) -> bool
     requires { b < 200 }
     ensures { result ≡ leads_to (link_at (table_of card.now) b) (b + 1) }
@@ -54,7 +58,7 @@ fn breaks_game_rule(card: &[u8; LENGTH], i: usize) -> bool
         return true;
     }
     let blocks = size(entry);
-    128 < blocks || !rises(card, blocks)
+    MOST < blocks || !rises(card, blocks)
 }
 
 // The refusal at the first listed entry that breaks the rule.

@@ -37,14 +37,14 @@ rises-requires-clause-chained c =
     let k = game-chain _ _ _ c.entry_at-entry.ensures c.requires.good_chains c.requires.below (sym c.is_game.ensures ∙ c.if-not-is_game.false) (sym c.first_block.ensures ∙ c.if-first_block-ne0.false) in
     rw c.size-blocks.ensures k.there
 
-pub returns-then-blocks-gt128 : goal.returns-then-blocks-gt128
-returns-then-blocks-gt128 c =
-    lt-ltb 128 _ c.if-blocks-gt128.true
+pub returns-then-blocks-gt-MOST : goal.returns-then-blocks-gt-MOST
+returns-then-blocks-gt-MOST c =
+    lt-ltb 128 _ c.if-blocks-gt-MOST.true
     ∙ too_large _ _ c.entry_at-entry.ensures _ (sym c.is_game.ensures ∙ c.if-not-is_game.false) (sym c.game_before.ensures ∙ c.if-game_before.false)
     (sym c.first_block.ensures ∙ c.if-first_block-ne0.false) (omega (arith, c.size-blocks.ensures))
 
-pub returns-else-blocks-gt128 : goal.returns-else-blocks-gt128
-returns-else-blocks-gt128 c =
+pub returns-else-blocks-gt-MOST : goal.returns-else-blocks-gt-MOST
+returns-else-blocks-gt-MOST c =
     let is-entry = c.entry_at-entry.ensures in
     let game = sym c.is_game.ensures ∙ c.if-not-is_game.false in
     let from_0 = sym c.first_block.ensures ∙ c.if-first_block-ne0.false in
