@@ -2,14 +2,14 @@
 
 // Refusal 29, by hash: each slot leads to the last listed entry whose name falls into it, and each entry to the one before it in its
 // slot.
-ghost use Rattle.std.specs.Prelude.{◌≡◌, ℕ, suc, ◌+◌, ◌≤◌, ◌<◌, length, Some};
+ghost use Rattle.std.specs.Prelude.{◌≡◌, ℕ, ◌+◌, ◌≤◌, ◌<◌, length, Some};
 ghost use Rattle.verdicts.specs.Rows.{result_verdict};
 ghost use Rattle.card_model.specs.Layout.{directory_of};
 ghost use Rattle.card_model.specs.Entries.{name_of, name_row};
 ghost use Rattle.card_directory.specs.Listed.{Listed};
 ghost use Rattle.card_names.specs.Slots as hash;
 
-use card_directory::entry::{entry_at, has_name};
+use card_directory::entry::entry_at;
 use card_model::LENGTH;
 use verdicts::{CardError, Place, Rule};
 
@@ -64,7 +64,7 @@ fn find_back(
     let mut at = start;
     while let Some(k) = at {
         let k = usize::from(k);
-        if has_name(entry_at(card, usize::from(used[k])), name) {
+        if name_of(entry_at(card, usize::from(used[k]))) == name {
             return Some(k);
         }
         at = next[k];
