@@ -1,6 +1,6 @@
 pub mod FirstLaws
-pub mod LinkLaws
 pub mod MarkLaws
+pub mod PassLaws
 pub mod SetLaws
 pub mod StepLaws
 pub mod WalkLaws

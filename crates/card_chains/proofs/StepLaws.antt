@@ -6,7 +6,7 @@ use Rattle.std.specs.Prelude.{Some}
 use native.Mathlib.Omega.{arith}
 use lib.ListN.{get_or}
 use Rattle.card_model.specs.declared.Link.{Link}
-use Rattle.card_model.specs.declared.Link.TheVariants.{Next}
+use Rattle.card_model.specs.declared.Link.TheVariants.{Free, Damaged, Last, Next, Bad}
 use Rattle.card_model.specs.Table.{link_at}
 use Rattle.card_model.specs.Files.{chain}
 use Rattle.card_model.proofs.ChainLaws.{Links, ends, goes, chain-links}
@@ -17,25 +17,31 @@ module _ (table : List ℕ) (b steps : ℕ) where
   unfolding block_after
   after_none z = rw z
 
-  module _ {l : Link} (q : l ≡ link_at table b) where
-    pub after_next : (steps ≡ 0 → ⊥) → (n r : ℕ) → l ≡ Next n → r ≡ block_after table n (steps - 1) → r ≡ block_after table b steps
-    unfolding block_after
-    after_next h n r told e = go steps h e
-      where
-        go : (k : ℕ) → (k ≡ 0 → ⊥) → r ≡ block_after table n (k - 1) → r ≡ block_after table b k
-        go zero h e = absurd (h refl)
-        go (suc k) h e =
-            let p : suc k - 1 ≡ k = omega arith in
-            (rw p at e) ∙ rw (← q, told)
+  pub after_next : (steps ≡ 0 → ⊥) → (n r : ℕ) → link_at table b ≡ Next n → r ≡ block_after table n (steps - 1) → r ≡ block_after table b steps
+  unfolding block_after
+  after_next h n r told e = go steps h e
+    where
+      go : (k : ℕ) → (k ≡ 0 → ⊥) → r ≡ block_after table n (k - 1) → r ≡ block_after table b k
+      go zero h e = absurd (h refl)
+      go (suc k) h e =
+          let p : suc k - 1 ≡ k = omega arith in
+          (rw p at e) ∙ rw told
 
-    -- no block follows
-    pub after_stop : {l' : Link} → l ≡ l' → step_from b l' ≡ b → b ≡ block_after table b steps
-    unfolding block_after
-    after_stop told s = sym (go steps)
-      where
-        go : (k : ℕ) → block_after table b k ≡ b
-        go zero = refl
-        go (suc k) = rw (← q, told, s) (go k)
+  -- no block follows
+  pub after_stop : ((n : ℕ) → link_at table b ≡ Next n → ⊥) → b ≡ block_after table b steps
+  unfolding block_after
+  after_stop none = sym (go steps)
+    where
+      stays : (l : Link) → ((n : ℕ) → l ≡ Next n → ⊥) → step_from b l ≡ b
+      stays (Next n) none = absurd (none n refl)
+      stays Last none = refl
+      stays Free none = refl
+      stays Damaged none = refl
+      stays Bad none = refl
+
+      go : (k : ℕ) → block_after table b k ≡ b
+      go zero = refl
+      go (suc k) = rw (stays (link_at table b) none) (go k)
 
 -- on a chain that is longer than the steps, they lead to its block at this index
 pub block-of-chain : (table : List ℕ) (size b : ℕ) (blocks : List ℕ) → chain table size b ≡ Some blocks → (steps : ℕ) → steps < size

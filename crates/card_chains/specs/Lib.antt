@@ -1,4 +1,3 @@
-pub mod Counts
 pub mod Marks
 pub mod Rows
 pub mod Steps

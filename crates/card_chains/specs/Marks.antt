@@ -34,20 +34,6 @@ pub record MarkedFiles (table blocks marks : List ℕ) : Type 0 where
 abbrev pub outcome : Bool → Finding
 outcome shared = cond shared Shared Apart
 
--- A finding as a number.
-abbrev pub as_finding : ℕ → Finding
-as_finding found = cond (eqb found 0) Apart (cond (eqb found 1) Shared Broken)
-
-abbrev pub is_broken : Finding → Bool
-is_broken Apart = false
-is_broken Shared = false
-is_broken Broken = true
-
-abbrev pub is_shared : Finding → Bool
-is_shared Apart = false
-is_shared Shared = true
-is_shared Broken = false
-
 -- What the marks are where a walk has come to block b with `left` blocks left. Those above `left` may be of this walk: they are
 -- lengths of chains if the rest of the walk is one.
 pub record Walkable (table marks : List ℕ) (left b : ℕ) : Type 0 where

@@ -1,11 +1,13 @@
 use mathlib.Core.Path.{◌∙◌}
-use Rattle.card_chains.proofs.MarkLaws.{orphans-are}
+use native.Mathlib.Omega.{arith}
+use Rattle.card_chains.proofs.MarkLaws.{counted-none, counted-next, counted-all}
 use Rattle.card_chains.proofs.count_orphans.Goals as goal
 
-pub overflow_sub-result : goal.overflow_sub-result
-overflow_sub-result c =
-    (orphans-are _ _ c.requires.marked_files c.count_in_use.ensures (c.wide.ensures.0 ∙ c.count_marked.ensures)).0
+pub loop-b-init : goal.loop-b-init
+loop-b-init c = counted-none
+
+pub loop-b-preserved : goal.loop-b-preserved
+loop-b-preserved c = counted-next c.requires c.loop-b.invariant c.fat_entry.ensures.0 c.classify.ensures c.free_or_damaged.ensures c.from-orphans.ensures
 
 pub returns : goal.returns
-returns c =
-    (orphans-are _ _ c.requires.marked_files c.count_in_use.ensures (c.wide.ensures.0 ∙ c.count_marked.ensures)).1
+returns c = c.from.ensures ∙ counted-all c.loop-b.invariant (omega arith)
