@@ -12,7 +12,7 @@ use Rattle.words.specs.Lists.{any_of, has, is_some}
 use Rattle.words.proofs.JoinLaws.{any_append}
 use Rattle.words.proofs.Distinct.{count, one, count_next}
 use Rattle.card_model.specs.declared.Link.{Link}
-use Rattle.card_model.specs.Table.{fat_entry, link_of, link_at, free_or_damaged}
+use Rattle.card_model.specs.Table.{link_at, free_or_damaged}
 use mir.Val.{bool_byte}
 use Rattle.card_model.specs.Entries.{first_block, size, is_used, entry_at}
 use Rattle.card_model.specs.Files.{chain, chain_of, bad_chain, file_of, files_before, shares_block, is_orphan, orphans}
@@ -44,11 +44,11 @@ same-outcome true false e = cc
 same-outcome false true e = cc
 same-outcome false false e = refl
 
--- the walk from an entry's fields, over what was read of the table, is along the entry's chain
-pub entry-walked : {table t entry s : List ℕ} {b n : ℕ} → t ≡ table → s ≡ entry → b ≡ first_block s → n ≡ size s
-    → {found : Finding} {marks marks' : List ℕ} → Walked t (chain t n b) marks found marks' → Walked table (chain_of table entry) marks found marks'
+-- the walk from an entry's fields is along the entry's chain
+pub entry-walked : {table entry s : List ℕ} {b n : ℕ} → s ≡ entry → b ≡ first_block s → n ≡ size s
+    → {found : Finding} {marks marks' : List ℕ} → Walked table (chain table n b) marks found marks' → Walked table (chain_of table entry) marks found marks'
 unfolding chain_of
-entry-walked p q r v w = rw (← p, ← q, ← r, ← v) w
+entry-walked q r v w = rw (← q, ← r, ← v) w
 
 -- ---- the files' marks
 
@@ -157,10 +157,10 @@ module _ {table : List ℕ} {directory : List (List ℕ)} where
 
   -- one block more, by its mark and its entry
   pub counted-next : {marks : List ℕ} {count b : ℕ} → MarkedFiles table (files_before table directory 208) marks → Counted table directory count b
-      → {e : ℕ} → e ≡ fat_entry table b → {l : Link} → l ≡ link_of e → {unused : Bool} → unused ≡ free_or_damaged l
+      → {l : Link} → l ≡ link_at table b → {unused : Bool} → unused ≡ free_or_damaged l
       → {k : ℕ} → k ≡ bool_byte (eqb (get_or marks b 0) 0 && not unused) → Counted table directory (count + k) (b + 1)
-  unfolding is_orphan is_marked link_at
-  counted-next {marks} {count} {b} f c p q v {k} w = record {
+  unfolding is_orphan is_marked
+  counted-next {marks} {count} {b} f c p v {k} w = record {
     small = omega (arith, c.small, one-small (is_orphan table directory b), k-is);
     is_count = omega (arith, c.is_count, count_to-next (is_orphan table directory) b, k-is);
   }
@@ -172,7 +172,7 @@ module _ {table : List ℕ} {directory : List (List ℕ)} where
       swap false false u e = rw (← e)
 
       k-is : k ≡ one (is_orphan table directory b)
-      k-is = w ∙ rw (v, q, p) (swap (eqb (get_or marks b 0) 0) (free_or_damaged (link_at table b)) _ (f.are_of_blocks.exactly b))
+      k-is = w ∙ rw (v, p) (swap (eqb (get_or marks b 0) 0) (free_or_damaged (link_at table b)) _ (f.are_of_blocks.exactly b))
 
       one-small : (t : Bool) → one t ≤ 1
       one-small true = omega arith

@@ -1,13 +1,13 @@
 -- One step along a chain: what it makes of a walk's answer and marks. Assumes nothing.
 use Prim.Native.Nat.{ℕ, zero, suc, ◌-◌, ◌≤◌, ◌<◌}
 use mathlib.Core.Path.{◌≡◌, refl, sym, ap, ◌∙◌}
-use mathlib.Core.Bool.{Bool, true, false, ◌||◌, or-false, false≢true}
+use mathlib.Core.Bool.{Bool, true, false, cond, ◌||◌, or-false, false≢true}
 use mathlib.Core.List.{List, [], ◌∷◌}
 use Rattle.std.specs.Prelude.{Option, None, Some, option_map}
 use native.Mathlib.Omega.{arith}
 use lib.Dec.{eqb}
 use lib.ListN.{length, get_or, set, length-set}
-use borrow.Author.Tests.{eqb-true, eq-eqb, ne_eqb}
+use borrow.Author.Tests.{eqb-true, eqb-false, eq-eqb, ne_eqb}
 use Rattle.words.specs.Lists.{any_of, has, is_some}
 use Rattle.words.proofs.Bools.{or-false-right}
 use Rattle.card_model.specs.declared.Link.{Link}
@@ -36,13 +36,6 @@ chain-step table zero b h told = absurd (h refl)
 chain-step table (suc left) b h told =
     let e : suc left - 1 ≡ left = omega arith in
     rw (told, e)
-
--- the last block with blocks left behind it
-pub chain-early : (table : List ℕ) (left b : ℕ) → (left ≡ 0 → ⊥) → link_at table b ≡ Last → (left ≡ 1 → ⊥) → chain table left b ≡ None
-unfolding chain_step
-chain-early table left b h told more =
-    let e : eqb (left - 1) 0 ≡ false = ne_eqb (left - 1) 0 (λ z. omega (arith, h, more)) in
-    chain-step table left b h told ∙ rw e
 
 -- a block that is in no chain
 pub chain-stop : (table : List ℕ) (left b : ℕ) → (left ≡ 0 → ⊥) → (link_at table b ≡ Last → ⊥) → ((n : ℕ) → link_at table b ≡ Next n → ⊥)
@@ -80,32 +73,31 @@ module _ (table : List ℕ) where
 
   -- at block b, with `left` blocks left
   module _ (marks : List ℕ) (b left : ℕ) (k : Walkable table marks left b) where
+    -- the block is marked
     module _ {mark : ℕ} (m : mark ≡ get_or marks b 0) (h : mark ≡ 0 → ⊥) where
       is-marked : is_marked marks b ≡ true
       unfolding is_marked
       is-marked = rw (← m, ne_eqb mark 0 h)
 
-      pub walked-met : mark ≡ left → Walked table (chain table left b) marks Shared marks
-      walked-met d = go (chain table left b) refl
+      pub walked-met : {found : Finding} → found ≡ cond (eqb mark left) Shared Broken → Walked table (chain table left b) marks found marks
+      walked-met {found} q = go (chain table left b) refl (eqb mark left) refl
         where
-          go : (o : Option (List ℕ)) → chain table left b ≡ o → Walked table o marks Shared marks
-          go None e =
-              let same : get_or marks b 0 ≡ left = sym m ∙ d in
+          go : (o : Option (List ℕ)) → chain table left b ≡ o → (t : Bool) → eqb mark left ≡ t → Walked table o marks found marks
+          go None e true d =
+              let same : get_or marks b 0 ≡ left = sym m ∙ eqb-true mark left d in
               let s : is_some (chain table (get_or marks b 0) b) ≡ true = k.up_to_left b is-marked (omega arith) in
               absurd (false≢true (sym (ap is_some e) ∙ (rw same at s)))
-          go (Some bs) e =
+          go None e false d =
+              let f : found ≡ Broken = q ∙ rw d in
+              rw f (walked-broken marks marks refl)
+          go (Some bs) e false d =
+              absurd (eqb-false mark left d (m ∙ one_length (get_or marks b 0) left b bs ((k.all_if_good (ap is_some e)).each b is-marked) e))
+          go (Some bs) e true d =
               let meets : any_of (is_marked marks) bs ≡ true = rw (chain_head table left b bs e, is-marked) in record {
-                answers = rw meets;
+                answers = q ∙ rw (d, meets);
                 are_lengths = λ s. k.all_if_good (ap is_some e);
                 marked = λ cs f a. let z : cs ≡ bs = cc in absurd (false≢true (sym a ∙ ap (any_of (is_marked marks)) z ∙ meets));
               }
-
-      pub walked_other : (mark ≡ left → ⊥) → Walked table (chain table left b) marks Broken marks
-      walked_other d = go (chain table left b) refl
-        where
-          go : (o : Option (List ℕ)) → chain table left b ≡ o → Walked table o marks Broken marks
-          go None e = walked-broken marks marks refl
-          go (Some bs) e = absurd (d (m ∙ one_length (get_or marks b 0) left b bs ((k.all_if_good (ap is_some e)).each b is-marked) e))
 
     -- the block is not marked, and gets its mark
     module _ (some_left : left ≡ 0 → ⊥) (below : b < 200) (new : get_or marks b 0 ≡ 0) where
@@ -122,14 +114,25 @@ module _ (table : List ℕ) where
       set-lengths : is_some (chain table left b) ≡ true → Lengths table (set marks b left)
       set-lengths s = record { long = set-many; each = set-each marks b left long (λ x m. is_some (chain table m x) ≡ true) s (k.all_if_good s).each }
 
-      pub walked-last : link_at table b ≡ Last → left ≡ 1 → Walked table (chain table left b) marks Apart (set marks b left)
+      pub walked-last : link_at table b ≡ Last → {found : Finding} → found ≡ cond (eqb left 1) Apart Broken
+          → Walked table (chain table left b) marks found (set marks b left)
       unfolding chain_step
-      walked-last told d =
-          let f : chain table left b ≡ Some (b ∷ []) = chain-step table left b some_left told ∙ rw (eq-eqb (left - 1) 0 (omega (arith, d))) in record {
-            answers = rw (f, unmarked);
-            are_lengths = set-lengths;
-            marked = λ bs g a x. let z : bs ≡ b ∷ [] = cc in marked-set marks b left long some_left x ∙ rw (z, or-false);
-          }
+      walked-last told {found} q = go (eqb left 1) refl
+        where
+          e : chain table left b ≡ cond (eqb (left - 1) 0) (Some (b ∷ [])) None
+          e = chain-step table left b some_left told
+
+          go : (t : Bool) → eqb left 1 ≡ t → Walked table (chain table left b) marks found (set marks b left)
+          go true d =
+              let f : chain table left b ≡ Some (b ∷ []) = e ∙ rw (eq-eqb (left - 1) 0 (omega (arith, eqb-true left 1 d))) in record {
+                answers = q ∙ rw (d, f, unmarked);
+                are_lengths = set-lengths;
+                marked = λ bs g a x. let z : bs ≡ b ∷ [] = cc in marked-set marks b left long some_left x ∙ rw (z, or-false);
+              }
+          go false d =
+              let f = ne_eqb (left - 1) 0 (λ z. omega (arith, some_left, eqb-false left 1 d)) in
+              let g : found ≡ Broken = q ∙ rw d in
+              rw g (walked-broken marks (set marks b left) (e ∙ rw f))
 
       module _ (n : ℕ) (told : link_at table b ≡ Next n) where
         e : chain table left b ≡ option_map (λ (blocks : List ℕ). b ∷ blocks) (chain table (left - 1) n)

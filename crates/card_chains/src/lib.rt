@@ -14,10 +14,10 @@ ghost use Rattle.card_directory.specs.Listed.{Listed};
 ghost use Rattle.card_chains.specs.Marks.{no_marks, MarkedFiles};
 ghost use Rattle.card_chains.specs.Rows.{chain_rows};
 
-use crate::walking::{Finding, walk};
+use crate::walking::{Finding, link_at, walk};
 use card_directory::entry::{entry_at, first_block, size};
 use card_model::LENGTH;
-use card_table::{classify, fat_entry, free_or_damaged, read_table};
+use card_table::free_or_damaged;
 use verdicts::{CardError, Place, Rule};
 
 // Refusals 27 and 28, over the list of the used entries. A bad chain anywhere comes before a shared block, so the first entry that
@@ -29,12 +29,11 @@ pub fn walk_files(card: &[u8; LENGTH], used: &[u8], marks: &mut [u8; 200]) -> Re
     ensures value { result_verdict result ≡ chain_rows (table_of card.now) (directory_of card.now) }
     ensures marked_files { OnOk result (MarkedFiles (table_of card.now) (files_before (table_of card.now) (directory_of card.now) 208) marks.new) }
 {
-    let table = read_table(card);
     let mut shared = None;
     for &i in used {
         let i = usize::from(i);
         let entry = entry_at(card, i);
-        match walk(&table, marks, first_block(entry), size(entry)) {
+        match walk(card, marks, first_block(entry), size(entry)) {
             Finding::Broken => return Err(Rule::Chain.at(Place::Entry(i))),
             Finding::Shared => shared = shared.or(Some(i)),
             Finding::Apart => {}
@@ -54,7 +53,7 @@ pub fn count_orphans(card: &[u8; LENGTH], marks: &[u8; 200]) -> usize
 {
     let mut orphans: u16 = 0;
     for b in 0..200 {
-        orphans += u16::from((marks[b] == 0) & !free_or_damaged(classify(fat_entry(card, b))));
+        orphans += u16::from((marks[b] == 0) & !free_or_damaged(link_at(card, b)));
     }
     usize::from(orphans)
 }

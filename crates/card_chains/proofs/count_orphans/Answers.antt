@@ -7,7 +7,7 @@ pub loop-b-init : goal.loop-b-init
 loop-b-init c = counted-none
 
 pub loop-b-preserved : goal.loop-b-preserved
-loop-b-preserved c = counted-next c.requires c.loop-b.invariant c.fat_entry.ensures.0 c.classify.ensures c.free_or_damaged.ensures c.from-orphans.ensures
+loop-b-preserved c = counted-next c.requires c.loop-b.invariant c.link_at.ensures c.free_or_damaged.ensures c.from-orphans.ensures
 
 pub returns : goal.returns
 returns c = c.from.ensures ∙ counted-all c.loop-b.invariant (omega arith)

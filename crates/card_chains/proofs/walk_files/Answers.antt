@@ -19,7 +19,7 @@ walk-requires-clause-block_bound c =
 
 pub returns-in-Broken-clause-value : goal.returns-in-Broken-clause-value
 returns-in-Broken-clause-value c =
-    let walked = entry-walked c.read_table-table.ensures c.entry_at-entry.ensures c.first_block.ensures c.size.ensures c.in-Broken.ensures in
+    let walked = entry-walked c.entry_at-entry.ensures c.first_block.ensures c.size.ensures c.in-Broken.ensures in
     rw c.at.ensures (bad-refused c.requires.listed _ c.loop-i.invariant _ c.from-i.ensures c.loop-i-test.true walked)
 
 pub loop-i-preserved : goal.loop-i-preserved
@@ -27,10 +27,10 @@ loop-i-preserved c =
     let next = passed-next c.requires.listed _ c.loop-i.invariant _ c.from-i.ensures c.loop-i-test.true in
     elim c.match-walk.branch [
       | in-Shared w ↦
-          let walked = entry-walked c.read_table-table.ensures c.entry_at-entry.ensures c.first_block.ensures c.size.ensures w.in-Shared.ensures in
+          let walked = entry-walked c.entry_at-entry.ensures c.first_block.ensures c.size.ensures w.in-Shared.ensures in
           rw (w.shared-is, w.or-shared.ensures) (next true walked)
       | in-Apart w ↦
-          let walked = entry-walked c.read_table-table.ensures c.entry_at-entry.ensures c.first_block.ensures c.size.ensures w.in-Apart.ensures in
+          let walked = entry-walked c.entry_at-entry.ensures c.first_block.ensures c.size.ensures w.in-Apart.ensures in
           rw (w.shared-is, ← or_none c.loop-i.shared) (next false walked)
     ]
 
