@@ -12,36 +12,29 @@ use Rattle.card_model.specs.Files.{chain}
 use Rattle.card_model.proofs.ChainLaws.{Links, ends, goes, chain-links}
 use Rattle.card_chains.specs.Steps.{step_from, block_after}
 
-module _ (table : List ℕ) (b steps : ℕ) where
-  pub after_none : steps ≡ 0 → b ≡ block_after table b steps
-  unfolding block_after
-  after_none z = rw z
+pub after_none : (table : List ℕ) (b steps : ℕ) → steps ≡ 0 → block_after table b steps ≡ b
+unfolding block_after
+after_none table b steps z = rw z
 
-  pub after_next : (steps ≡ 0 → ⊥) → (n r : ℕ) → link_at table b ≡ Next n → r ≡ block_after table n (steps - 1) → r ≡ block_after table b steps
-  unfolding block_after
-  after_next h n r told e = go steps h e
-    where
-      go : (k : ℕ) → (k ≡ 0 → ⊥) → r ≡ block_after table n (k - 1) → r ≡ block_after table b k
-      go zero h e = absurd (h refl)
-      go (suc k) h e =
-          let p : suc k - 1 ≡ k = omega arith in
-          (rw p at e) ∙ rw told
+pub after_next : (table : List ℕ) (b steps n : ℕ) → (steps ≡ 0 → ⊥) → link_at table b ≡ Next n → block_after table b steps ≡ block_after table n (steps - 1)
+unfolding block_after
+after_next table b zero n h told = absurd (h refl)
+after_next table b (suc steps) n h told =
+    let p : suc steps - 1 ≡ steps = omega arith in
+    rw (told, p)
 
-  -- no block follows
-  pub after_stop : ((n : ℕ) → link_at table b ≡ Next n → ⊥) → b ≡ block_after table b steps
-  unfolding block_after
-  after_stop none = sym (go steps)
-    where
-      stays : (l : Link) → ((n : ℕ) → l ≡ Next n → ⊥) → step_from b l ≡ b
-      stays (Next n) none = absurd (none n refl)
-      stays Last none = refl
-      stays Free none = refl
-      stays Damaged none = refl
-      stays Bad none = refl
-
-      go : (k : ℕ) → block_after table b k ≡ b
-      go zero = refl
-      go (suc k) = rw (stays (link_at table b) none) (go k)
+-- where no block follows
+pub after_stop : (table : List ℕ) (b steps : ℕ) → ((n : ℕ) → link_at table b ≡ Next n → ⊥) → block_after table b steps ≡ b
+unfolding block_after
+after_stop table b zero none = refl
+after_stop table b (suc steps) none = rw (stays (link_at table b) none) (after_stop table b steps none)
+  where
+    stays : (l : Link) → ((n : ℕ) → l ≡ Next n → ⊥) → step_from b l ≡ b
+    stays (Next n) none = absurd (none n refl)
+    stays Last none = refl
+    stays Free none = refl
+    stays Damaged none = refl
+    stays Bad none = refl
 
 -- on a chain that is longer than the steps, they lead to its block at this index
 pub block-of-chain : (table : List ℕ) (size b : ℕ) (blocks : List ℕ) → chain table size b ≡ Some blocks → (steps : ℕ) → steps < size

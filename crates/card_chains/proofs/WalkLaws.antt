@@ -21,9 +21,9 @@ use Rattle.card_chains.specs.declared.walking.Finding.TheVariants.{Apart, Shared
 use Rattle.card_chains.specs.Marks.{is_marked, Lengths, Walkable, Walked}
 use Rattle.card_chains.proofs.SetLaws.{marked-set, set-each, any_same}
 
-pub step-below : (table : List ℕ) (b n : ℕ) → link_at table b ≡ Next n → n < 200
+pub step_below : (table : List ℕ) (b n : ℕ) → link_at table b ≡ Next n → n < 200
 unfolding link_at
-step-below table b n told = next-below _ n told
+step_below table b n told = next-below _ n told
 
 pub chain-none : (table : List ℕ) (left b : ℕ) → left ≡ 0 → chain table left b ≡ None
 unfolding chain
@@ -154,7 +154,7 @@ module _ (table : List ℕ) where
 
         -- what the walk from the next block asks
         pub next-asked : left ≤ 200 → ((n < 200) × (left - 1 ≤ 200)) × Walkable table (set marks b left) (left - 1) n
-        next-asked h = ((step-below table b n told, omega (arith, h)), walkable-next)
+        next-asked h = ((step_below table b n told, omega (arith, h)), walkable-next)
 
         pub walked_next : {found : Finding} {marks' : List ℕ} → Walked table (chain table (left - 1) n) (set marks b left) found marks'
             → Walked table (chain table left b) marks found marks'
