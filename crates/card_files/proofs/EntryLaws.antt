@@ -1,26 +1,15 @@
 -- The parts of an entry, written one after the other. Assumes nothing.
 use Prim.Native.Nat.{ℕ}
 use mathlib.Core.Path.{◌≡◌, ap, ◌∙◌}
-use mathlib.Core.List.{List, [], ◌∷◌, ◌++◌, append_assoc}
+use mathlib.Core.List.{List, ◌++◌, append_assoc}
 use native.Mathlib.Omega.{arith}
-use lib.ListN.{length, drop, replicate, length-append, length-drop}
+use lib.ListN.{length, drop, length-append, length-drop}
 use borrow.Rule.Slice.PartMut.{put_mid}
 use Rattle.words.specs.Words.{word_bytes}
 use Rattle.card_updates.specs.Write.{entry_of}
 use Rattle.words.proofs.PartsLaws.{laid, laid-last}
 use Rattle.card_files.specs.declared.entries.EntryNumbers.{EntryNumbers}
 use Rattle.card_files.specs.Entry.{head_of, tail_of, entry_with}
-
-pub head-laid : (n : EntryNumbers) (part : List ℕ) {first second : List ℕ} → length part ≡ 4 → first ≡ n.kind ∷ n.flag ∷ [] → second ≡ word_bytes n.first
-    → put_mid 2 2 (put_mid 0 2 part first) second ≡ head_of n
-head-laid n part {first} {second} l e f =
-    laid-last first second (drop 2 part) 2 2 (ap length e) (omega (arith, l, length-drop 2 part)) ∙ rw (e, f)
-
-pub tail-laid : (n : EntryNumbers) {zeros first second : List ℕ} → zeros ≡ replicate 8 0 → first ≡ word_bytes n.size → second ≡ word_bytes n.offset
-    → put_mid 2 2 (put_mid 0 2 zeros first) second ≡ tail_of n
-unfolding word_bytes
-tail-laid n {zeros} {first} {second} z e f =
-    laid first second (drop 2 zeros) 2 2 (ap length e) ∙ rw (z, e, f)
 
 pub entry-wide : (n : EntryNumbers) (name time : List ℕ) → length name ≡ 12 → length time ≡ 8 → length (entry_with n name time) ≡ 32
 unfolding entry_of word_bytes
@@ -29,13 +18,12 @@ entry-wide n name time a b =
     let y = length-append time (tail_of n) in
     omega (arith, x, y)
 
--- head, name, time and tail
-module _ (n : EntryNumbers) (part name time : List ℕ) (l : length part ≡ 32) (a : length name ≡ 12) (b : length time ≡ 8) where
+-- name, time and tail over what stands behind the head
+module _ (n : EntryNumbers) (rest name time : List ℕ) (l : length rest ≡ 28) (a : length name ≡ 12) (b : length time ≡ 8) where
   pub entry-laid : {head first second tail : List ℕ} → head ≡ head_of n → first ≡ name → second ≡ time → tail ≡ tail_of n
-      → put_mid 24 8 (put_mid 16 8 (put_mid 4 12 (put_mid 0 4 part head) first) second) tail ≡ entry_with n name time
+      → put_mid 24 8 (put_mid 16 8 (put_mid 4 12 (head ++ rest) first) second) tail ≡ entry_with n name time
   unfolding entry_of word_bytes
   entry-laid {head} {first} {second} {tail} e f g h =
-      let rest = drop 4 part in
       let two : put_mid 4 12 (head ++ rest) first ≡ head ++ first ++ drop 12 rest = laid head first rest 4 12 (ap length e) in
       let long : length (head ++ first) ≡ 16 = length-append head first ∙ omega (arith, ap length e, ap length f) in
       let three : put_mid 16 8 (head ++ first ++ drop 12 rest) second ≡ head ++ first ++ second ++ drop 8 (drop 12 rest) =

@@ -1,11 +1,19 @@
--- A part of a card that was lent, written and is back, is put anew. Assumes nothing.
-use Prim.Native.Nat.{ℕ, ◌+◌, ◌-◌, ◌≤◌}
+-- A part of a card that was lent, written and is back, is put anew; a number as the two bytes that are written. Assumes nothing.
+use Prim.Native.Nat.{ℕ, ◌+◌, ◌-◌, ◌/◌, ◌%◌, ◌≤◌, ◌<◌}
 use mathlib.Core.Path.{◌≡◌, ap, ◌∙◌}
 use mathlib.Core.List.{List}
 use native.Mathlib.Omega.{arith}
 use lib.ListN.{length, take, drop, length-take, length-drop}
 use borrow.Rule.Slice.PartMut.{put_mid, Post-is}
+use Rattle.std.specs.Int.{w16, to_le_bytes}
+use Rattle.words.specs.Words.{word_bytes}
 use Rattle.card_updates.specs.Parts.{with_part}
+
+pub le-word : (n : ℕ) → n < 65536 → to_le_bytes w16 n ≡ word_bytes n
+unfolding word_bytes
+le-word n h =
+    let e : n / 256 % 256 ≡ n / 256 = omega arith in
+    cc
 
 part-back : (card part : List ℕ) (at n : ℕ) → length part ≡ n → put_mid at (at + n - at) card part ≡ with_part card at part
 unfolding with_part

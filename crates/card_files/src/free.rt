@@ -1,46 +1,52 @@
 // The free blocks of a card: those that a new file may take.
-ghost use Rattle.std.specs.Prelude.{◌≡◌, ◌+◌, ◌<◌, length};
-ghost use Rattle.card_model.specs.Layout.{card_length, table_of};
+ghost use Rattle.std.specs.Prelude.{◌≡◌, ◌≤◌, List, ℕ, take};
+ghost use Rattle.card_model.specs.Layout.{table_of};
 ghost use Rattle.card_model.specs.Table.{is_free};
-ghost use Rattle.card_files.specs.FreeList.{FreeTo};
+ghost use Rattle.card_updates.specs.Write.{free_blocks};
 
-use card_model::Link;
+use card_model::{LENGTH, Link};
 use card_table::{classify, fat_entry};
-use words::one_if;
+use std::marker::Model;
+
+// The numbers of the free blocks, from the highest downwards.
+#[derive(Drop)]
+pub struct FreeBlocks {
+    numbers: [u8; 200],
+    count: usize,
+}
+
+impl Model for FreeBlocks {
+    ghost Value = { List ℕ };
+
+    ghost view = { λ f. take f.count f.numbers };
+
+    ghost invariant = { λ f. f.count ≤ 200 };
+}
+
+impl FreeBlocks {
+    pub fn as_slice(&self) -> &[u8]
+        ensures { result.now ≡ self.now }
+    {
+        &self.numbers[..self.count]
+    }
+}
 
 fn is_free(link: Link) -> bool
     ensures { result ≡ is_free link }
 {
-    match link {
-        Link::Free => true,
-        Link::Damaged => false,
-        Link::Last => false,
-        Link::Next(_) => false,
-        Link::Bad => false,
-    }
+    matches!(link, Link::Free)
 }
 
-// Block b is put behind the list, and stays there where it is free: the count that is answered has it then. No step depends on
-// whether it is.
-fn list_block(card: &[u8], free: &mut [u8; 200], count: usize, b: usize) -> usize
-    requires card_len { (length card.now ≡ card_length) × (b < 200) }
-    requires free_to { FreeTo (table_of card.now) (b + 1) free.old count }
-    ensures { FreeTo (table_of card.now) b free.new result }
+// Lists the free blocks.
+pub fn list_free(card: &[u8; LENGTH]) -> FreeBlocks
+    ensures { result ≡ free_blocks (table_of card.now) }
 {
-    free[count] = b as u8;
-    count + one_if(is_free(classify(fat_entry(card, b))))
-}
-
-// Lists the free blocks from the highest downwards; answers how many there are.
-pub fn list_free(card: &[u8], free: &mut [u8; 200]) -> usize
-    requires { (length card.now ≡ card_length) × (length free.old ≡ 200) }
-    ensures { FreeTo (table_of card.now) 0 free.new result }
-{
-    let mut count: usize = 0;
-    let mut b = 200;
-    while b != 0 {
-        b -= 1;
-        count = list_block(card, free, count, b);
+    let mut numbers = [0; 200];
+    let mut count = 0;
+    for b in (0..200).rev() {
+        // Each block is put behind the list, and is counted where it is free: no step depends on whether it is.
+        numbers[count] = b;
+        count += usize::from(is_free(classify(fat_entry(card, usize::from(b)))));
     }
-    count
+    FreeBlocks { numbers, count }
 }
