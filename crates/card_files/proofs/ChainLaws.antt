@@ -11,6 +11,7 @@ use Rattle.words.specs.Lists.{has, Distinct}
 use Rattle.card_model.specs.declared.Link.TheVariants.{Next}
 use Rattle.card_model.specs.Layout.{card_length, table_of}
 use Rattle.card_model.specs.Table.{fat_entry, link_of, link_at}
+use Rattle.card_model.proofs.TableLaws.{next_is}
 use Rattle.card_model.proofs.ChainLaws.{Links, ends, goes, chain-links, links-chain}
 use Rattle.card_updates.specs.Parts.{with_link}
 use Rattle.card_updates.specs.Delete.{freed}
@@ -68,3 +69,5 @@ none_left table left b blocks z s = go (chain-links table left b blocks s.is_cha
     go : {left : ℕ} {blocks : List ℕ} → Links table left b blocks → left ≡ 0 → ⊥
     go (ends q) z = omega arith
     go (goes q l) z = omega arith
+
+pub ruleset chains = (chain_next, chain_last, none_left, next_is)

@@ -11,9 +11,9 @@ use Rattle.words.proofs.PartsLaws.{laid, laid-last}
 use Rattle.card_files.specs.declared.entries.EntryNumbers.{EntryNumbers}
 use Rattle.card_files.specs.Entry.{head_of, tail_of, entry_with}
 
-pub entry-wide : (n : EntryNumbers) (name time : List ℕ) → length name ≡ 12 → length time ≡ 8 → length (entry_with n name time) ≡ 32
+pub entry_wide : (n : EntryNumbers) (name time : List ℕ) → length name ≡ 12 → length time ≡ 8 → length (entry_with n name time) ≡ 32
 unfolding entry_of word_bytes
-entry-wide n name time a b =
+entry_wide n name time a b =
     let x = length-append name (time ++ tail_of n) in
     let y = length-append time (tail_of n) in
     omega (arith, x, y)
@@ -34,3 +34,5 @@ module _ (n : EntryNumbers) (rest name time : List ℕ) (l : length rest ≡ 28)
       ∙ ap (λ (s : List ℕ). put_mid 24 8 s tail) three
       ∙ laid-last (head ++ first ++ second) tail (drop 8 (drop 12 rest)) 24 8 longer (omega arith)
       ∙ rw (e, f, g, h) (append_assoc (head_of n ++ name) time (tail_of n) ∙ append_assoc (head_of n) name (time ++ tail_of n))
+
+pub ruleset entries = (entry_wide, entry-laid)

@@ -9,9 +9,9 @@ use Rattle.std.specs.Int.{w16, to_le_bytes}
 use Rattle.words.specs.Words.{word_bytes}
 use Rattle.card_updates.specs.Parts.{with_part}
 
-pub le-word : (n : ℕ) → n < 65536 → to_le_bytes w16 n ≡ word_bytes n
+pub le_word : (n : ℕ) → n < 65536 → to_le_bytes w16 n ≡ word_bytes n
 unfolding word_bytes
-le-word n h =
+le_word n h =
     let e : n / 256 % 256 ≡ n / 256 = omega arith in
     cc
 
@@ -20,11 +20,13 @@ unfolding with_part
 part-back card part at n e = rw (Post-is at (at + n) card (omega arith), e)
 
 -- how long a part is that is lent
-pub part-wide : (card : List ℕ) (at n : ℕ) → at + n ≤ length card → length (take (at + n - at) (drop at card)) ≡ n
-part-wide card at n h = simp (length-take, length-drop) (omega arith)
+pub part_wide : (card : List ℕ) (at n : ℕ) → at + n ≤ length card → length (take (at + n - at) (drop at card)) ≡ n
+part_wide card at n h = simp (length-take, length-drop) (omega arith)
 
 -- the part holds these bytes, and its place is known
 pub put_back : (card : List ℕ) (n : ℕ) {part new : List ℕ} {at place : ℕ} → part ≡ new → length new ≡ n → at ≡ place
     → put_mid at (at + n - at) card part ≡ with_part card place new
 put_back card n {part} {new} {at} e l p =
     part-back card part at n (ap length e ∙ l) ∙ ap (with_part card at) e ∙ ap (λ (k : ℕ). with_part card k new) p
+
+pub ruleset puts = (put_back, le_word, part_wide)

@@ -1,3 +1,5 @@
+#![tactic(auto, using(crate::proofs::PutLaws::puts, crate::proofs::ChainLaws::chains), unfolding(words::specs::Words::word_bytes, card_model::specs::Layout::card_length, card_model::specs::Table::link_at, card_updates::specs::Parts::with_link, card_updates::specs::Write::with_block))]
+
 // The blocks of a file: their bytes and their table entries, written where they stand on the card.
 ghost use Rattle.std.specs.Prelude.{◌≡◌, List, ℕ, ◌*◌, ◌≤◌, ◌<◌, length, get_or};
 ghost use Rattle.card_model.specs.Layout.{table_of};

@@ -1,3 +1,5 @@
+#![tactic(auto, using(crate::proofs::PutLaws::puts, crate::proofs::EntryLaws::entries, crate::proofs::UnusedLaws::unused), unfolding(words::specs::Words::word_bytes, card_model::specs::Layout::card_length))]
+
 // The directory's entries: the lowest unused one, an entry filled, an entry cleared.
 ghost use Rattle.std.specs.Prelude.{◌≡◌, true, List, ℕ, ◌<◌, length, replicate};
 ghost use Rattle.std.specs.Prelude.{Some};
@@ -35,7 +37,6 @@ pub fn lowest_unused(used: &[u8]) -> usize
 
 impl EntryNumbers {
     // The first four bytes of the entry: kind, flag, first block.
-    #[tactic(auto, unfolding(words::specs::Words::word_bytes))]
     fn head(self) -> [u8; 4]
         ensures { result ≡ head_of self }
     {
@@ -44,7 +45,6 @@ impl EntryNumbers {
     }
 
     // Its last eight bytes: size, header offset, and the reserved ones.
-    #[tactic(auto, unfolding(words::specs::Words::word_bytes))]
     fn tail(self) -> [u8; 8]
         ensures { result ≡ tail_of self }
     {

@@ -1,4 +1,4 @@
-#![tactic(auto, unfolding(card_model::specs::Layout::card_length))]
+#![tactic(auto)]
 
 // Files put onto a card and taken off it. The card is one that was opened, so nothing of it is tested here.
 pub mod blocks;

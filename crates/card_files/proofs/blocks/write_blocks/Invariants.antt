@@ -11,5 +11,5 @@ invariant-loop-j l =
     let left = enumerate_source l.j-iterator in
     record {
       blocks_left : iter_rest (zip_first left) ≡ drop (enumerate_count l.j-iterator) l.blocks;
-      written : with_blocks l.fn.card l.blocks l.content ≡ with_chunks l.card (iter_rest (zip_first left)) (iter_rest (zip_second left))
+      written : with_blocks l.fn.card l.blocks l.content ≡ with_chunks l.card (iter_rest (zip_first left)) (iter_rest (zip_second left));
     }
