@@ -21,7 +21,7 @@ use Rattle.flash_model.specs.Partition.{block_at, copy_at, holder}
 use Rattle.flash_model.specs.Update.{is_at, is_holder}
 use Rattle.flash_model.proofs.MeasureLaws.{legal-below, measures-of}
 use Rattle.flash_partition.specs.Usable.{Usable}
-use Rattle.flash_partition.specs.declared.opening.OpenedLog.{OpenedLog}
+use Rattle.flash_partition.specs.declared.partition.OpenedLog.{OpenedLog}
 use Rattle.flash_partition.proofs.UsableLaws.{usable-has, usable-measured, count_most, holder-some}
 use Rattle.flash_listing.specs.BlockTests.{is_new, mark, is_kept}
 use Rattle.flash_listing.specs.Passing.{PassAt, MarksAdded}

@@ -18,8 +18,8 @@ use Rattle.flash_model.specs.Partition.{block_at, copy_at, contents, lowest_live
 use Rattle.flash_model.proofs.MeasureLaws.{legal-below}
 use Rattle.flash_model.proofs.MeaningLaws.{next_live_lem, live-none}
 use Rattle.flash_partition.specs.Usable.{Usable}
-use Rattle.flash_partition.specs.declared.opening.OpenedLog.{OpenedLog}
-use Rattle.flash_listing.specs.BlockTests.{lowered, as_lowest}
+use Rattle.flash_partition.specs.declared.partition.OpenedLog.{OpenedLog}
+use Rattle.flash_listing.specs.BlockTests.{lowered}
 use Rattle.flash_partition.proofs.UsableLaws.{usable-measured, holder-some}
 
 -- ---- one block
@@ -138,14 +138,14 @@ module _ {image : List ℕ} {log : OpenedLog} (u : Usable image log) (end : ℕ)
           omega arith
 
   -- the start is past the top
-  pub next_past : (start : ℕ) → end ≤ start → as_lowest None ≡ as_lowest (lowest_live image start)
-  next_past start h = ap as_lowest (sym (live-none image start (λ n a c. absurd (omega (arith, a, c, h, e, ap capacity u.has_size)))))
+  pub next_past : (start : ℕ) → end ≤ start → None ≡ lowest_live image start
+  next_past start h = (sym (live-none image start (λ n a c. absurd (omega (arith, a, c, h, e, ap capacity u.has_size)))))
 
   -- the start itself is found
   pub next_start : (start k best : ℕ) → start < end → k ≤ log.used + 1 → best ≡ start → BestSoFar image start end k best
-      → as_lowest (Some start) ≡ as_lowest (lowest_live image start)
+      → Some start ≡ lowest_live image start
   next_start start k best h f q b =
-      ap as_lowest (sym ((next_live_lem image start start u.is_sound).1 (record {
+      (sym ((next_live_lem image start start u.is_sound).1 (record {
         not_below = omega arith;
         is_live_lem = has-contents k start f h (rw q at (b.is_seen (omega (arith, q, h))));
         none_between = λ n a c. absurd (omega (arith, a, c));
@@ -156,14 +156,14 @@ module _ {image : List ℕ} {log : OpenedLog} (u : Usable image log) (end : ℕ)
     lower-none : (n : ℕ) → start ≤ n → n < best → contents image n ≡ None
     lower-none n a c = no-contents n (omega (arith, c, b.bound)) (λ j lo hi. b.none_lower n j a c lo (omega (arith, hi, f)))
 
-    pub next_is : best < end → as_lowest (Some best) ≡ as_lowest (lowest_live image start)
+    pub next_is : best < end → Some best ≡ lowest_live image start
     next_is h =
-        ap as_lowest (sym ((next_live_lem image start best u.is_sound).1 (record {
+        (sym ((next_live_lem image start best u.is_sound).1 (record {
           not_below = b.not_below h;
           is_live_lem = has-contents k best (omega arith) h (b.is_seen h);
           none_between = λ n a c. lower-none n a c;
         })))
 
-    pub next-none : end ≤ best → as_lowest None ≡ as_lowest (lowest_live image start)
+    pub next-none : end ≤ best → None ≡ lowest_live image start
     next-none h =
-        ap as_lowest (sym (live-none image start (λ n a c. lower-none n a (omega (arith, c, h, e, ap capacity u.has_size)))))
+        (sym (live-none image start (λ n a c. lower-none n a (omega (arith, c, h, e, ap capacity u.has_size)))))

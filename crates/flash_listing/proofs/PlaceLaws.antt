@@ -8,8 +8,8 @@ use mathlib.Core.Logic.{◌≢◌}
 use native.Mathlib.Omega.{arith}
 use native.Mathlib.Decide.{ℕ_discrete}
 use lib.Dec.{ltb}
-use lib.ListN.{length, get_or, drop, set, replicate, length-set, length-append, length-drop, length-replicate, get_or-replicate, get_or-append}
-use lib.Seq.{get_or-set_same, get_or-set_other, drop-set-lt, drop_at}
+use lib.ListN.{length, get_or, take, drop, set, replicate, length-set, length-append, length-drop, length-replicate, get_or-replicate, get_or-append}
+use lib.Seq.{get_or-set_same, get_or-set_other, drop-set-lt, drop_at, length-take-le}
 use borrow.Author.Tests.{ne_eqb, le-ltb, lt-ltb}
 use Rattle.words.specs.Search.{highest}
 use Rattle.flash_model.specs.UserBlock.{number, right_checksum}
@@ -49,6 +49,9 @@ pub record Placed (image : List ℕ) (end : ℕ) (cleared places : List ℕ) : T
 -- the first places are 0
 abbrev pub Cleared : ℕ → List ℕ → List ℕ → Type 0
 Cleared end places₀ cleared = cleared ≡ replicate end 0 ++ drop end places₀
+
+pub filled_front : {front : List ℕ} (end : ℕ) (places₀ : List ℕ) → end ≤ length places₀ → front ≡ replicate (length (take end places₀)) 0 → Cleared end places₀ (front ++ drop end places₀)
+filled_front end places₀ h e = rw (e, length-take-le end places₀ h)
 
 pub none-placed : (image : List ℕ) (end : ℕ) (places₀ cleared : List ℕ) → Cleared end places₀ cleared → Placed image end cleared cleared
 none-placed image end places₀ cleared e = record {

@@ -2,13 +2,10 @@
 -- its number is the lowest so far.
 -- Assumes nothing.
 use Rattle.std.specs.Prelude.{ℕ, ◌≡◌, Bool, cond, ◌&&◌, List, eqb, ltb, leb, get_or}
-use Rattle.std.specs.Prelude.{Option, None, Some}
 use Rattle.words.specs.Lists.{keep, numbers_from}
 use Rattle.flash_model.specs.UserBlock.{number, right_checksum}
 use Rattle.flash_model.specs.Partition.{block_at}
 use Rattle.flash_model.specs.Update.{is_holder}
-use Rattle.flash_listing.specs.declared.LowestNumber.{LowestNumber}
-use Rattle.flash_listing.specs.declared.LowestNumber.TheVariants.{Hit, Nothing}
 
 -- No number has a mark. A mark is any number but 0.
 abbrev pub NoneMarked : List ℕ → Type 0
@@ -33,7 +30,3 @@ kept_blocks marks image used = keep (is_kept marks image) (numbers_from 1 used)
 -- The block's number, if it is lower than the best so far, not below the start, and the checksum is right.
 unfoldable pub lowered : ℕ → List ℕ → ℕ → ℕ
 lowered start block best = cond (leb start (number block) && (ltb (number block) best && right_checksum block)) (number block) best
-
-abbrev pub as_lowest : Option ℕ → LowestNumber
-as_lowest None = Nothing
-as_lowest (Some n) = Hit n

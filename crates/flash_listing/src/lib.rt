@@ -3,30 +3,22 @@
 // One pass over the used blocks for whatever looks at all numbers.
 pub mod places;
 
-ghost use Rattle.std.specs.Prelude.{◌≡◌, true, false, ◌+◌, ◌-◌, ◌≤◌, ◌<◌, length, set};
+ghost use Rattle.std.specs.Prelude.{◌≡◌, true, false, ◌+◌, ◌≤◌, ◌<◌, length, set};
 ghost use Rattle.flash_model.specs.Measures.{capacity};
 ghost use Rattle.flash_model.specs.UserBlock.{number};
 ghost use Rattle.flash_model.specs.Partition.{live, lowest_live};
-ghost use Rattle.flash_partition.specs.Usable.{Usable};
-ghost use Rattle.flash_listing.specs.BlockTests.{is_new, mark, kept_blocks, lowered, as_lowest};
+ghost use Rattle.flash_listing.specs.BlockTests.{is_new, mark, kept_blocks, lowered};
 ghost use Rattle.flash_listing.specs.Passing.{PassAt, StopsAt, left_and_listed, MarksAdded, ListGrown, AllListed};
 
-use flash_measures::{Measures, NUMBERS};
-use flash_partition::blocks::{block_at, right_checksum};
-use flash_partition::opening::OpenedLog;
+use flash_measures::NUMBERS;
+use flash_partition::blocks::right_checksum;
+use flash_partition::partition::Partition;
 use words::word;
-
-// A live number, or none.
-#[derive(Clone, Copy)]
-pub enum LowestNumber {
-    Hit(usize),
-    Nothing,
-}
 
 // Whether the block that the part is may hold the contents of its number: that is below `end` and has no mark. No checksum is
 // worked for one that may not.
-fn is_new(part: &[u8], end: usize, marks: &[u8]) -> bool
-    requires { (length part.now ≡ 64) × (end ≤ length marks.now) }
+fn is_new(part: &[u8; 64], end: usize, marks: &[u8]) -> bool
+    requires { end ≤ length marks.now }
     ensures { result ≡ is_new end part.now marks.now }
 {
     let number = word(part, 0);
@@ -38,8 +30,8 @@ fn is_new(part: &[u8], end: usize, marks: &[u8]) -> bool
 
 // Marks the number of the block that the part is, which has no mark, if the checksum is right. The mark, 1 or 0, is stored in
 // any case: no branch waits for the checksum. The answer is how many numbers were marked.
-fn mark_number(part: &[u8], marks: &mut [u8]) -> usize
-    requires { (length part.now ≡ 64) × (number part.now < length marks.old) }
+fn mark_number(part: &[u8; 64], marks: &mut [u8]) -> usize
+    requires { number part.now < length marks.old }
     ensures value { (result ≡ mark part.now) × (result ≤ 1) }
     ensures marks_after { marks.new ≡ set marks.old (number part.now) result }
 {
@@ -56,16 +48,16 @@ struct Progress {
 }
 
 // Marks the numbers of blocks from `from` downwards as long as they are new, and counts them.
-fn count_run(image: &[u8], m: Measures, end: usize, marks: &mut [u8], from: usize) -> Progress
-    requires { PassAt marks.old image.now m.size end from }
-    ensures stops_at { StopsAt false marks.new image.now m.size end from result.at }
+fn count_run(p: Partition<'_>, end: usize, marks: &mut [u8], from: usize) -> Progress
+    requires { PassAt marks.old p.image.now p.log.m.size end from }
+    ensures stops_at { StopsAt false marks.new p.entry.image.now p.entry.log.m.size end from result.at }
     ensures at_bound { result.count + result.at ≤ from }
-    ensures at_after { result.count + length (kept_blocks marks.new image.now result.at) ≡ length (kept_blocks marks.old image.now from) }
+    ensures at_after { result.count + length (kept_blocks marks.new p.entry.image.now result.at) ≡ length (kept_blocks marks.old p.entry.image.now from) }
 {
     let mut count: usize = 0;
     let mut k = from;
     while 0 < k {
-        let part = block_at(image, m, k);
+        let part = p.block(k);
         if !is_new(part, end, &marks[..]) {
             return Progress { at: k, count };
         }
@@ -76,14 +68,14 @@ fn count_run(image: &[u8], m: Measures, end: usize, marks: &mut [u8], from: usiz
 }
 
 // Passes over blocks from `from` downwards as long as they are not new.
-fn pass_known(image: &[u8], m: Measures, end: usize, marks: &[u8], from: usize) -> usize
-    requires { PassAt marks.now image.now m.size end from }
-    ensures stops_at { StopsAt true marks.now image.now m.size end from result }
-    ensures result_value { kept_blocks marks.now image.now result ≡ kept_blocks marks.now image.now from }
+fn pass_known(p: Partition<'_>, end: usize, marks: &[u8], from: usize) -> usize
+    requires { PassAt marks.now p.image.now p.log.m.size end from }
+    ensures stops_at { StopsAt true marks.now p.entry.image.now p.entry.log.m.size end from result }
+    ensures result_value { kept_blocks marks.now p.entry.image.now result ≡ kept_blocks marks.now p.entry.image.now from }
 {
     let mut k = from;
     while 0 < k {
-        if is_new(block_at(image, m, k), end, marks) {
+        if is_new(p.block(k), end, marks) {
             return k;
         }
         k -= 1;
@@ -93,43 +85,36 @@ fn pass_known(image: &[u8], m: Measures, end: usize, marks: &[u8], from: usize) 
 
 // How many numbers have contents. Blocks go in falling order, so the first of a number that has a right checksum is the one, and
 // no checksum is worked for an older copy.
-pub fn count_live(image: &[u8], log: OpenedLog) -> usize
-    requires { Usable image.now log }
-    ensures { result ≡ live image.now }
+pub fn count_live(p: Partition<'_>) -> usize
+    ensures { result ≡ live p.entry.image.now }
 {
     let mut marks = [0u8; NUMBERS];
-    let end = log.m.capacity();
+    let end = p.log.m.capacity();
     let mut count: usize = 0;
-    let mut k = log.used;
+    let mut k = p.log.used;
     while 0 < k {
-        let run = count_run(image, log.m, end, &mut marks, k);
+        let run = count_run(p, end, &mut marks, k);
         count += run.count;
-        k = pass_known(image, log.m, end, &marks, run.at);
+        k = pass_known(p, end, &marks, run.at);
     }
     count
 }
 
 // Marks the numbers of a run of blocks as `count_run` does, and lists the blocks: each new block is stored in front of the list,
 // which begins with it where its number is marked. The store comes behind the checksum; in front of it the pass took longer.
-fn list_run(
-    image: &[u8],
-    m: Measures,
-    marks: &mut [u8],
-    kept: &mut [u16],
-    reached: Progress,
-) -> Progress
-    requires pass_at { PassAt marks.old image.now m.size (capacity m.size) reached.at }
+fn list_run(p: Partition<'_>, marks: &mut [u8], kept: &mut [u16], reached: Progress) -> Progress
+    requires pass_at { PassAt marks.old p.image.now p.log.m.size (capacity p.log.m.size) reached.at }
     requires at_in_bounds { reached.count + reached.at ≤ length kept.old }
-    ensures stops_at { StopsAt false marks.new image.now m.size (capacity m.size) reached.at result.at }
+    ensures stops_at { StopsAt false marks.new p.entry.image.now p.entry.log.m.size (capacity p.entry.log.m.size) reached.at result.at }
     ensures at_bound { result.count + result.at ≤ reached.count + reached.at }
-    ensures kept_after { left_and_listed marks.new image.now result.at result.count kept.new ≡ left_and_listed marks.old image.now reached.at reached.count kept.old }
-    ensures marks_added { MarksAdded image.now marks.old marks.new × ListGrown reached.count result.count kept.old kept.new }
+    ensures kept_after { left_and_listed marks.new p.entry.image.now result.at result.count kept.new ≡ left_and_listed marks.old p.entry.image.now reached.at reached.count kept.old }
+    ensures marks_added { MarksAdded p.entry.image.now marks.old marks.new × ListGrown reached.count result.count kept.old kept.new }
 {
-    let end = m.capacity();
+    let end = p.log.m.capacity();
     let mut count = reached.count;
     let mut k = reached.at;
     while 0 < k {
-        let part = block_at(image, m, k);
+        let part = p.block(k);
         if !is_new(part, end, &marks[..]) {
             return Progress { at: k, count };
         }
@@ -143,18 +128,17 @@ fn list_run(
 
 // Lists at the end of `kept`, rising, the physical block of the contents of each number that has no mark, and counts
 // these. The place in front of the list is written too. Then each number that has contents has a mark.
-pub fn list_kept(image: &[u8], log: OpenedLog, marks: &mut [u8], kept: &mut [u16]) -> usize
-    requires usable { Usable image.now log }
-    requires size_in_bounds { (capacity log.m.size ≤ length marks.old) × (capacity log.m.size ≤ length kept.old) }
-    ensures { AllListed image.now marks.old kept.old log.used marks.new kept.new result }
+pub fn list_kept(p: Partition<'_>, marks: &mut [u8], kept: &mut [u16]) -> usize
+    requires { (capacity p.log.m.size ≤ length marks.old) × (capacity p.log.m.size ≤ length kept.old) }
+    ensures { AllListed p.entry.image.now marks.old kept.old p.entry.log.used marks.new kept.new result }
 {
-    let end = log.m.capacity();
+    let end = p.log.m.capacity();
     let mut count: usize = 0;
-    let mut k = log.used;
+    let mut k = p.log.used;
     while 0 < k {
-        let run = list_run(image, log.m, marks, kept, Progress { at: k, count });
+        let run = list_run(p, marks, kept, Progress { at: k, count });
         count = run.count;
-        k = pass_known(image, log.m, end, &marks[..], run.at);
+        k = pass_known(p, end, &marks[..], run.at);
     }
     count
 }
@@ -162,8 +146,7 @@ pub fn list_kept(image: &[u8], log: OpenedLog, marks: &mut [u8], kept: &mut [u16
 // The lower of `best` and the number of the block that this part is, if that is not below the start and the checksum is
 // right, which is worked only where the number would be the new best. One test decides that: two took longer where numbers stand
 // in any order.
-fn lower(part: &[u8], start: usize, best: usize) -> usize
-    requires { length part.now ≡ 64 }
+fn lower(part: &[u8; 64], start: usize, best: usize) -> usize
     ensures { result ≡ lowered start part.now best }
 {
     let number = word(part, 0);
@@ -177,27 +160,22 @@ fn lower(part: &[u8], start: usize, best: usize) -> usize
 }
 
 // The lowest live number not below the start. None is lower than the start itself, so the pass ends where that is found.
-pub fn next_number(image: &[u8], log: OpenedLog, start: usize) -> LowestNumber
-    requires { Usable image.now log }
-    ensures { result ≡ as_lowest (lowest_live image.now start) }
+pub fn next_number(p: Partition<'_>, start: usize) -> Option<usize>
+    ensures { result ≡ lowest_live p.entry.image.now start }
 {
-    let end = log.m.capacity();
+    let end = p.log.m.capacity();
     if end <= start {
-        return LowestNumber::Nothing;
+        return None;
     }
-    let used = log.used;
+    let used = p.log.used;
     let mut best = end;
     let mut k: usize = 1;
     while k <= used {
-        best = lower(block_at(image, log.m, k), start, best);
+        best = lower(p.block(k), start, best);
         if best == start {
-            return LowestNumber::Hit(start);
+            return Some(start);
         }
         k += 1;
     }
-    if best < end {
-        LowestNumber::Hit(best)
-    } else {
-        LowestNumber::Nothing
-    }
+    if best < end { Some(best) } else { None }
 }

@@ -11,14 +11,11 @@ use Rattle.flash_listing.proofs.ListedLaws.{none_left}
 use Rattle.flash_listing.proofs.HolderLaws.{kept-live}
 use Rattle.flash_listing.proofs.count_live.Goals as goal
 
-pub capacity-end-requires : goal.capacity-end-requires
-capacity-end-requires c = usable-legal c.requires
-
 pub loop-k-init : goal.loop-k-init
 loop-k-init c =
-    let s = c.args.log.m.size in
-    let long : c.capacity-end.result ≤ length no_marks = omega (arith, c.capacity-end.ensures, capacity-most s (usable-legal c.requires)) in
-    (omega arith, refl, pass-first no_marks c.capacity-end.result c.requires c.capacity-end.ensures long, zero-add _ ∙ kept-live c.requires no_marks none_marked)
+    let s = c.args.p.log.m.size in
+    let long : c.capacity-end.result ≤ length no_marks = omega (arith, c.capacity-end.ensures, capacity-most s (usable-legal c.args.p.usable)) in
+    (omega arith, refl, pass-first no_marks c.capacity-end.result c.args.p.usable c.capacity-end.ensures long, zero-add _ ∙ kept-live c.args.p.usable no_marks none_marked)
 
 pub loop-k-preserved : goal.loop-k-preserved
 loop-k-preserved c =
@@ -32,4 +29,4 @@ loop-k-preserved c =
     )
 
 pub returns : goal.returns
-returns c = omega (arith, c.loop-k.invariant.3, none_left c.loop-k.marks c.args.image.now c.loop-k.k c.loop-k-test.false)
+returns c = omega (arith, c.loop-k.invariant.3, none_left c.loop-k.marks c.args.p.image.now c.loop-k.k c.loop-k-test.false)

@@ -10,7 +10,7 @@ use Rattle.flash_listing.proofs.count_live.Given as goal
 
 abbrev pub invariant-loop-k : goal.invariant-loop-k
 invariant-loop-k l =
-    (l.count + l.k ≤ l.log.used) × (length l.marks ≡ length no_marks) × PassAt l.marks l.image l.log.m.size l.end l.k × (l.count + length (kept_blocks l.marks l.image l.k) ≡ live l.image)
+    (l.count + l.k ≤ l.p.log.used) × (length l.marks ≡ length no_marks) × PassAt l.marks l.p.image.now l.p.log.m.size l.end l.k × (l.count + length (kept_blocks l.marks l.p.image.now l.k) ≡ live l.p.image.now)
 
 abbrev pub decreases-loop-k : goal.decreases-loop-k
 decreases-loop-k l = l.k

@@ -8,8 +8,8 @@ use Rattle.flash_listing.proofs.count_run.Given as goal
 
 abbrev pub invariant-loop-k : goal.invariant-loop-k
 invariant-loop-k l =
-    (l.count + l.k ≤ l.from) × (length l.marks ≡ length l.initial.marks) × PassAt l.marks l.image l.m.size l.end l.k
-    × (l.count + length (kept_blocks l.marks l.image l.k) ≡ length (kept_blocks l.initial.marks l.image l.from))
+    (l.count + l.k ≤ l.from) × (length l.marks ≡ length l.initial.marks) × PassAt l.marks l.p.image.now l.p.log.m.size l.end l.k
+    × (l.count + length (kept_blocks l.marks l.p.image.now l.k) ≡ length (kept_blocks l.initial.marks l.p.image.now l.from))
 
 abbrev pub decreases-loop-k : goal.decreases-loop-k
 decreases-loop-k l = l.k

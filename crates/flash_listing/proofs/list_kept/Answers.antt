@@ -7,27 +7,24 @@ use Rattle.flash_listing.proofs.LeftLaws.{added_none, added_then, marks-after, g
 use Rattle.flash_listing.proofs.ListedLaws.{listed-first, listed-passed, listed-all, pass-capacity}
 use Rattle.flash_listing.proofs.list_kept.Goals as goal
 
-pub capacity-end-requires : goal.capacity-end-requires
-capacity-end-requires c = usable-legal c.requires.usable
-
 pub loop-k-init : goal.loop-k-init
 loop-k-init c =
-    let i = c.args.image.now in (
+    let i = c.args.p.image.now in (
       omega arith,
       refl,
       refl,
-      pass-first c.args.marks.now c.capacity-end.result c.requires.usable c.capacity-end.ensures (omega (arith, c.capacity-end.ensures, c.requires.size_in_bounds.0)),
-      listed-first c.args.marks.now i c.args.kept.now c.args.log.used,
+      pass-first c.args.marks.now c.capacity-end.result c.args.p.usable c.capacity-end.ensures (omega (arith, c.capacity-end.ensures, c.requires.0)),
+      listed-first c.args.marks.now i c.args.kept.now c.args.p.log.used,
       added_none _ _,
       grown-none _ _,
     )
 
 pub list_run-run-requires : goal.list_run-run-requires
-list_run-run-requires c = record { pass_at = pass-capacity c.loop-k.invariant.3; at_in_bounds = omega (arith, c.loop-k.invariant.0, c.loop-k.invariant.2, count_most c.requires.usable, c.requires.size_in_bounds.1) }
+list_run-run-requires c = record { pass_at = pass-capacity c.loop-k.invariant.3; at_in_bounds = omega (arith, c.loop-k.invariant.0, c.loop-k.invariant.2, count_most c.args.p.usable, c.requires.1) }
 
 pub loop-k-preserved : goal.loop-k-preserved
 loop-k-preserved c =
-    let i = c.args.image.now in
+    let i = c.args.p.image.now in
     let v = c.loop-k.invariant in
     let s = c.pass_known-k.ensures in (
       omega (arith, v.0, c.list_run-run.ensures.at_bound, s.stops_at.no_higher),
@@ -46,7 +43,7 @@ returns c =
     let v = c.loop-k.invariant in
     record {
       few = omega (arith, v.0);
-      listed = rw (sym v.2) (sym (listed-all c.loop-k.marks a.image.now c.loop-k.kept c.loop-k.k c.loop-k.count c.loop-k-test.false) ∙ v.4);
+      listed = rw (sym v.2) (sym (listed-all c.loop-k.marks a.p.image.now c.loop-k.kept c.loop-k.k c.loop-k.count c.loop-k-test.false) ∙ v.4);
       grown = v.6;
       marks_are = marks-after v.5 v.3 (omega (arith, c.loop-k-test.false));
     }

@@ -10,7 +10,7 @@ use Rattle.flash_listing.proofs.mark_number.Goals.{then-right_checksum, else-rig
 pub bounds-marks-word : goal.bounds-marks-word
 bounds-marks-word c =
     let place_is : number c.args.part.now ≡ c.word.result = number_is c.args.part.now ∙ sym c.word.ensures.0 in
-    omega (arith, place_is, c.requires.1)
+    omega (arith, place_is, c.requires)
 
 pub returns : goal.returns
 returns c =
