@@ -1,5 +1,8 @@
 -- What is left of a list when a part of it, lent and written, is back. Assumes nothing.
-use Prim.Native.Nat.{ℕ, ◌+◌, ◌-◌, ◌*◌, ◌≤◌}
+use Rattle.std.proofs.Common.{w16}
+use Rattle.std.specs.Int.{to_le_bytes}
+use native.Mathlib.Nat.{mod-eq_of_lt}
+use Prim.Native.Nat.{ℕ, ◌+◌, ◌-◌, ◌*◌, ◌/◌, ◌%◌, ◌<◌, ◌≤◌}
 use mathlib.Core.Path.{◌≡◌, sym, ap, ◌∙◌}
 use mathlib.Core.List.{List, ◌++◌, append_assoc, append-nil}
 use native.Mathlib.Omega.{arith}
@@ -11,6 +14,13 @@ use Rattle.words.proofs.PartsLaws.{laid}
 use Rattle.checksum.specs.Crc.{checksum_of}
 use Rattle.flash_model.specs.UserBlock.{new_block}
 use Rattle.flash_model.specs.Update.{with_block}
+
+-- the two bytes that the library makes of a number
+pub le-word : (n : ℕ) → n < 65536 → to_le_bytes w16 n ≡ word_bytes n
+unfolding word_bytes
+le-word n h =
+    let high : n / 256 % 256 ≡ n / 256 = mod-eq_of_lt (omega arith) in
+    rw high
 
 pub part-put : (image part : List ℕ) (k : ℕ) → put_mid (k * 64) (k * 64 + 64 - k * 64) image part ≡ with_block image k part
 unfolding with_block
