@@ -1,11 +1,10 @@
--- A part that is lent and filled, and a copy inside one list. Assumes nothing.
-use Prim.Native.Nat.{ℕ, ◌+◌, ◌-◌, ◌*◌, ◌≤◌, ◌<◌}
-use mathlib.Core.Path.{◌≡◌, sym, ap, ◌∙◌}
+-- A part that is lent and filled, and a block written where it stands. Assumes nothing.
+use Prim.Native.Nat.{ℕ, ◌+◌, ◌-◌, ◌*◌, ◌≤◌}
+use mathlib.Core.Path.{◌≡◌, ap, ◌∙◌}
 use mathlib.Core.List.{List, ◌++◌, append_assoc, append-nil}
 use native.Mathlib.Omega.{arith}
-use native.Mathlib.Numerals.{add-one}
-use lib.ListN.{length, get_or, take, drop, set, replicate, length-drop, take-append-drop}
-use lib.Seq.{drop-length, drop-drop, paste, paste-suc, drop-paste, get_or-drop}
+use lib.ListN.{length, take, drop, replicate, take-append-drop}
+use lib.Seq.{drop-length, drop-drop}
 use borrow.Rule.Slice.PartMut.{mid_of, put_mid, Post-is, mid_len}
 use Rattle.flash_model.specs.Partition.{block_at}
 use Rattle.flash_model.specs.Update.{with_block}
@@ -25,16 +24,3 @@ unfolding with_block block_at
 block-itself image k =
     append_assoc (take (k * 64) image) (take 64 (drop (k * 64) image)) (drop (k * 64 + 64) image)
     ∙ rw (← drop-drop 64 (k * 64) image, take-append-drop 64 (drop (k * 64) image), take-append-drop (k * 64) image)
-
--- ---- a copy downwards inside one list: what is read has not been written yet
-
-pub move_step : (s : List ℕ) (a b i : ℕ) → b ≤ a → a + i < length s
-    → set (paste s b (drop a s) i) (b + i) (get_or (paste s b (drop a s) i) (a + i) 0) ≡ paste s b (drop a s) (i + 1)
-move_step s a b i down h =
-    let p = paste s b (drop a s) i in
-    let l : length (drop a s) ≡ length s - a = length-drop a s in
-    let e : b + i + (a - b) ≡ a + i = omega arith in
-    let read : get_or p (a + i) 0 ≡ get_or (drop a s) i 0 =
-    rw (← e, ← get_or-drop (b + i) p (a - b) 0, drop-paste s b (drop a s) i (omega arith) (omega arith), get_or-drop (b + i) s (a - b) 0, e)
-    (sym (get_or-drop a s i 0)) in
-    rw (read, add-one i) (paste-suc s b (drop a s) i 0 (omega arith) (omega arith))

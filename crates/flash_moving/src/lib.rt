@@ -10,7 +10,6 @@ ghost use Rattle.flash_moving.specs.Moving.{RisingBlocks, AllMoved};
 
 use flash_bitmap::clear_bits;
 use flash_measures::{BLOCK_BYTES, Measures};
-use words::fill;
 
 // Block `from` copied over block `to`, which is not above it. Where no lower block was dropped it stands there already.
 fn move_block(image: &mut [u8], from: usize, to: usize)
@@ -20,13 +19,8 @@ fn move_block(image: &mut [u8], from: usize, to: usize)
     if from == to {
         return;
     }
-    let a = from * BLOCK_BYTES;
-    let b = to * BLOCK_BYTES;
-    let mut i = 0;
-    while i < 64 {
-        image[b + i] = image[a + i];
-        i += 1;
-    }
+    let start = from * BLOCK_BYTES;
+    image.copy_within(start..start + BLOCK_BYTES, to * BLOCK_BYTES);
 }
 
 // The listed blocks, which rise, moved down to 1, 2, 3 and on. The answer is the next block to fill.
@@ -34,12 +28,10 @@ pub fn keep_blocks(image: &mut [u8], kept: &[u16]) -> usize
     requires { RisingBlocks 1 (length image.old) kept.now }
     ensures { AllMoved kept.now image.old image.new result }
 {
-    let mut to: usize = 1;
-    while to <= kept.len() {
-        move_block(image, kept[to - 1] as usize, to);
-        to += 1;
+    for (i, from) in kept.iter().enumerate() {
+        move_block(image, usize::from(*from), i + 1);
     }
-    to
+    kept.len() + 1
 }
 
 // FF from block `next` to the end, but for the bits of the blocks below it.
@@ -49,6 +41,6 @@ pub fn blank_rest(image: &mut [u8], m: Measures, next: usize)
     ensures { image.new ≡ model.bits_cleared (take (next * 64) image.old ++ replicate (m.size - next * 64) 255) (next - 1) }
 {
     let at = m.start(next);
-    fill(&mut image[at..], 255);
+    image[at..].fill(255);
     clear_bits(image, m, next - 1);
 }

@@ -27,14 +27,13 @@ slice_bounds-fill-start c =
 pub clear_bits-requires : goal.clear_bits-requires
 clear_bits-requires c =
     let w = is_within (c.args.next - 1) c.requires.has_measures (omega arith) in
-    let same = filled c.args.image.now c.args.m.size c.args.next _ c.requires.has_measures.has_size (omega arith) c.start-at.ensures c.fill.ensures in
+    let same = filled c.args.image.now c.args.m.size c.args.next _ c.requires.has_measures.has_size (omega arith) c.start-at.ensures (c.fill.ensures.after (λ y e. e)) in
     record { has_measures = record { has_size = search rules; is_legal = search rules }; n_bound = (search rules, blank-bitmap c.args.image.now c.args.m.size c.args.next (search rules) (omega arith) same) }
 
 pub returns : goal.returns
 returns c =
     let w = is_within (c.args.next - 1) c.requires.has_measures (omega arith) in
-    let f = c.fill in
     let s = c.start-at in
     c.clear_bits.ensures
     ∙ ap (λ (l : List ℕ). bits_cleared l (c.args.next - 1))
-    (filled c.args.image.now c.args.m.size c.args.next _ c.requires.has_measures.has_size (omega arith) s.ensures f.ensures)
+    (filled c.args.image.now c.args.m.size c.args.next _ c.requires.has_measures.has_size (omega arith) s.ensures (c.fill.ensures.after (λ y e. e)))
