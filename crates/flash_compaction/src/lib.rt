@@ -13,7 +13,7 @@ use flash_journal::write_block_at;
 use flash_listing::list_kept;
 use flash_measures::NUMBERS;
 use flash_moving::{blank_rest, keep_blocks};
-use flash_partition::opening::OpenedLog;
+use flash_partition::partition::{OpenedLog, Partition};
 
 // The contents of each number that has no mark, moved down to 1, 2, 3 and on. The answer is the next block to fill.
 fn keep_contents(image: &mut [u8], log: OpenedLog, marks: &mut [u8]) -> usize
@@ -22,7 +22,11 @@ fn keep_contents(image: &mut [u8], log: OpenedLog, marks: &mut [u8]) -> usize
     ensures { AllMoved (kept_blocks marks.old image.old log.used) image.old image.new result }
 {
     let mut kept = [0u16; NUMBERS];
-    let count = list_kept(&image[..], log, marks, &mut kept);
+    let part = Partition {
+        image: &image[..],
+        log,
+    };
+    let count = list_kept(part, marks, &mut kept);
     keep_blocks(image, &kept[NUMBERS - count..])
 }
 
@@ -38,9 +42,9 @@ pub fn erase(image: &mut [u8], log: OpenedLog)
 
 // Every other number's contents kept, then the new block. The saved number has a mark beforehand, so that no copy of it is
 // kept: there is room.
-pub fn compact(image: &mut [u8], log: OpenedLog, number: usize, page: &[u8])
+pub fn compact(image: &mut [u8], log: OpenedLog, number: usize, page: &[u8; 60])
     requires usable { Usable image.old log }
-    requires number_bound { (number ≤ top_number log.m.size) × (length page.now ≡ 60) }
+    requires number_bound { number ≤ top_number log.m.size }
     ensures { image.new ≡ model.compacted image.old (model.other_holders image.old number ++ new_block number page.now ∷ []) }
 {
     let mut marks = [0u8; NUMBERS];

@@ -6,7 +6,7 @@ use lib.ListN.{length, set, length-set}
 use Rattle.flash_model.specs.Measures.{capacity, top_number}
 use Rattle.flash_model.proofs.MeasureLaws.{capacity-most}
 use Rattle.flash_partition.specs.Usable.{Usable}
-use Rattle.flash_partition.specs.declared.opening.OpenedLog.{OpenedLog}
+use Rattle.flash_partition.specs.declared.partition.OpenedLog.{OpenedLog}
 use Rattle.flash_partition.proofs.UsableLaws.{usable-legal, usable-has, usable-measured}
 use Rattle.flash_listing.specs.BlockTests.{kept_blocks}
 use Rattle.flash_listing.proofs.NoMarksLaws.{no_marks, none_marked}
@@ -24,24 +24,24 @@ module _ {image : List ℕ} {log : OpenedLog} (u : Usable image log) {n : ℕ} (
   room page {moved} {next} l m = others-high u no_marks none_marked moved next n page legal l inside 1 m refl
 
 pub bounds-marks-number : goal.bounds-marks-number
-bounds-marks-number c = inside c.requires.usable c.requires.number_bound.0
+bounds-marks-number c = inside c.requires.usable c.requires.number_bound
 
 pub keep_contents-next-requires : goal.keep_contents-next-requires
 keep_contents-next-requires c = record { usable = c.requires.usable; size_in_bounds = simp length-set (capacity-most c.args.log.m.size (usable-legal c.requires.usable)) }
 
 pub write_block_at-requires : goal.write_block_at-requires
 write_block_at-requires c =
-    let o = usable-has c.requires.usable in record { has_measures = record { has_size = c.keep_contents-next.auto.image ∙ o.has_size; is_legal = o.is_legal }; k_bound = (omega (arith, room c.requires.usable c.requires.number_bound.0 c.args.page.now c.requires.number_bound.1 c.keep_contents-next.ensures, c.keep_contents-next.ensures.next_is), c.requires.number_bound.1, omega (arith, inside c.requires.usable c.requires.number_bound.0)) }
+    let o = usable-has c.requires.usable in record { has_measures = record { has_size = c.keep_contents-next.auto.image ∙ o.has_size; is_legal = o.is_legal }; k_bound = (omega (arith, room c.requires.usable c.requires.number_bound c.args.page.now c.told-page c.keep_contents-next.ensures, c.keep_contents-next.ensures.next_is), omega (arith, inside c.requires.usable c.requires.number_bound)) }
 
 pub overflow_add-next : goal.overflow_add-next
-overflow_add-next c = omega (arith, room c.requires.usable c.requires.number_bound.0 c.args.page.now c.requires.number_bound.1 c.keep_contents-next.ensures, (usable-measured c.requires.usable).two_bytes)
+overflow_add-next c = omega (arith, room c.requires.usable c.requires.number_bound c.args.page.now c.told-page c.keep_contents-next.ensures, (usable-measured c.requires.usable).two_bytes)
 
 pub blank_rest-requires : goal.blank_rest-requires
 blank_rest-requires c =
-    let o = usable-has c.requires.usable in record { has_measures = record { has_size = c.write_block_at.auto.image ∙ c.keep_contents-next.auto.image ∙ o.has_size; is_legal = o.is_legal }; le_next = (omega arith, omega (arith, room c.requires.usable c.requires.number_bound.0 c.args.page.now c.requires.number_bound.1 c.keep_contents-next.ensures)) }
+    let o = usable-has c.requires.usable in record { has_measures = record { has_size = c.write_block_at.auto.image ∙ c.keep_contents-next.auto.image ∙ o.has_size; is_legal = o.is_legal }; le_next = (omega arith, omega (arith, room c.requires.usable c.requires.number_bound c.args.page.now c.told-page c.keep_contents-next.ensures)) }
 
 pub returns : goal.returns
 returns c =
     c.blank_rest.ensures
-    ∙ compact-is c.requires.usable no_marks none_marked _ c.keep_contents-next.result c.args.number c.args.page.now c.requires.number_bound.0 c.requires.number_bound.1 (inside c.requires.usable c.requires.number_bound.0)
+    ∙ compact-is c.requires.usable no_marks none_marked _ c.keep_contents-next.result c.args.number c.args.page.now c.requires.number_bound c.told-page (inside c.requires.usable c.requires.number_bound)
     _ c.keep_contents-next.ensures refl _ c.write_block_at.ensures

@@ -11,7 +11,7 @@ use Rattle.flash_compaction.proofs.KeptLaws.{kept-rise, part-is}
 use Rattle.flash_compaction.proofs.keep_contents.Goals as goal
 
 pub list_kept-count-requires : goal.list_kept-count-requires
-list_kept-count-requires c = record { usable = c.requires.usable; size_in_bounds = (c.requires.size_in_bounds, capacity-most c.args.log.m.size (usable-legal c.requires.usable)) }
+list_kept-count-requires c = (c.requires.size_in_bounds, capacity-most c.args.log.m.size (usable-legal c.requires.usable))
 
 pub overflow_sub-count : goal.overflow_sub-count
 overflow_sub-count c =
