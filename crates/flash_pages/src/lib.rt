@@ -1,126 +1,120 @@
 #![tactic(auto)]
 
 // Reads and saves of one page, on a partition that refusals 1 to 5 don't apply to.
-ghost use Rattle.std.specs.Prelude.{◌≡◌, true, cond, ◌≤◌, eqb, length};
-ghost use Rattle.flash_model.specs.Measures.{legal_number, top_number};
-ghost use Rattle.flash_model.specs.Partition.{row};
+ghost use Rattle.std.specs.Prelude.{◌≡◌, true, cond, eqb, IfOk, option_copied};
+ghost use Rattle.flash_model.specs.Errors.{result_code};
+ghost use Rattle.flash_model.specs.Measures.{legal_number};
+ghost use Rattle.flash_model.specs.Partition.{row, contents};
 ghost use Rattle.flash_model.specs.Update.{append_block, page_written, saved};
 ghost use Rattle.flash_model.specs.Calls.{changed_since, wrong_lengths, read_rows, save_rows};
 ghost use Rattle.flash_partition.specs.Usable.{Usable};
 ghost use Rattle.flash_pages.specs.Rows.{read_buffer, can_append};
 
-use flash_bitmap::Found;
-use flash_partition::blocks::{block_at, find};
-use flash_partition::opening::OpenedLog;
-use words::{copy_page, same};
+use flash_model::FlashError;
+use flash_partition::partition::{OpenedLog, Partition};
 
-// Reads the contents of a number into the page: refusals 6, 8 and 7, or 0.
-pub fn read_page(image: &[u8], log: OpenedLog, number: usize, page: &mut [u8]) -> u8
-    requires { Usable image.now log }
-    ensures value { result ≡ read_rows image.now number page.old }
-    ensures page_after { page.new ≡ read_buffer image.now number page.old }
+#[tactic(auto, using(crate::proofs::ReadLaws::holder_high), unfolding(flash_model::specs::Partition::contents, flash_model::specs::UserBlock::payload))]
+// The page that is the contents of a number, which callers have tested, if there are any.
+pub fn contents<'a>(p: Partition<'a>, number: usize) -> Option<&'a [u8; 60]>
+    requires { legal_number p.log.m.size number ≡ true }
+    ensures { option_copied result ≡ contents p.entry.image.now number }
 {
-    if !log.m.legal_number(number) {
-        return 6;
+    let k = p.find(number)?;
+    p.block(k)[2..62].as_array()
+}
+
+#[tactic(auto, unfolding(flash_model::specs::Calls::read_rows, crate::specs::Rows::read_buffer))]
+// Reads the contents of a number into the page: refusals 6, 8 and 7.
+pub fn read_page(p: Partition<'_>, number: usize, page: &mut [u8]) -> Result<(), FlashError>
+    ensures code { result_code result ≡ read_rows p.entry.image.now number page.old }
+    ensures page_after { page.new ≡ read_buffer p.entry.image.now number page.old }
+{
+    if !p.log.m.legal_number(number) {
+        return Err(FlashError::LogicalNumber);
     }
     if page.len() != 60 {
-        return 8;
+        return Err(FlashError::BufferLength);
     }
-    let Found::Hit(k) = find(image, log, number) else {
-        return 7;
+    let Some(there) = contents(p, number) else {
+        return Err(FlashError::NothingThere);
     };
-    let block = block_at(image, log.m, k);
-    copy_page(&block[2..62], page);
-    0
+    page.copy_from_slice(there);
+    Ok(())
 }
 
-// Whether the page isn't 60 bytes long, or what is expected neither 0 nor 60.
-pub fn wrong_lengths(expected: &[u8], page: &[u8]) -> bool
-    ensures { result ≡ wrong_lengths expected.now page.now }
+#[tactic(auto, unfolding(flash_model::specs::Calls::wrong_lengths))]
+// The page as 60 bytes: refusal 8 where it has another length, or where what is expected has neither 0 nor 60.
+pub fn whole_page<'a>(expected: &[u8], page: &'a [u8]) -> Result<&'a [u8; 60], FlashError>
+    ensures code { result_code result ≡ row 8 (wrong_lengths expected.now page.now) 0 }
+    ensures page { IfOk result (λ whole. whole.now ≡ page.now) }
 {
-    if page.len() != 60 {
-        return true;
-    }
-    if expected.len() == 0 {
-        return false;
-    }
-    expected.len() != 60
-}
-
-// 9 where the contents of the number are not what is expected, 0 bytes being nothing; else 0.
-fn changed_row(image: &[u8], log: OpenedLog, number: usize, expected: &[u8]) -> u8
-    requires usable { Usable image.now log }
-    requires number_value { legal_number log.m.size number ≡ true }
-    ensures { result ≡ row 9 (changed_since image.now number expected.now) 0 }
-{
-    let holder = find(image, log, number);
-    if expected.len() == 0 {
-        let Found::Nothing = holder else {
-            return 9;
-        };
-        return 0;
-    }
-    let Found::Hit(k) = holder else {
-        return 9;
+    let Ok(whole) = <&[u8; 60]>::try_from(page) else {
+        return Err(FlashError::BufferLength);
     };
-    let block = block_at(image, log.m, k);
-    if same(&block[2..62], expected) {
-        return 0;
+    if !matches!(expected.len(), 0 | 60) {
+        return Err(FlashError::BufferLength);
     }
-    9
+    Ok(whole)
 }
 
+#[tactic(auto, unfolding(flash_model::specs::Calls::changed_since))]
+// Whether the contents of the number are what is expected, 0 bytes being nothing: refusal 9 where they are not.
+fn check_seen(p: Partition<'_>, number: usize, expected: &[u8]) -> Result<(), FlashError>
+    requires { legal_number p.log.m.size number ≡ true }
+    ensures { result_code result ≡ row 9 (changed_since p.entry.image.now number expected.now) 0 }
+{
+    let changed = match contents(p, number) {
+        Some(there) => &there[..] != expected,
+        None => !expected.is_empty(),
+    };
+    if changed {
+        return Err(FlashError::Changed);
+    }
+    Ok(())
+}
+
+#[tactic(auto, using(crate::proofs::StoreRules::append_full, crate::proofs::StoreRules::append_blank_block))]
 // Whether a free user block exists and the lowest free one holds 64 bytes of FF.
-fn can_append(image: &[u8], log: OpenedLog) -> bool
-    requires { Usable image.now log }
-    ensures { result ≡ can_append (append_block image.now) }
+fn can_append(p: Partition<'_>) -> bool
+    ensures { result ≡ can_append (append_block p.entry.image.now) }
 {
-    if log.m.capacity() <= log.used {
-        return false;
-    }
-    let block = block_at(image, log.m, log.used + 1);
-    same(block, &[255u8; 64])
+    p.log.used < p.log.m.capacity() && *p.block(p.log.used + 1) == [255u8; 64]
 }
 
 // Writes a page that isn't the contents yet: an append where it can be had, else a compaction.
-fn write_page(image: &mut [u8], log: OpenedLog, number: usize, page: &[u8])
+fn write_page(image: &mut [u8], log: OpenedLog, number: usize, page: &[u8; 60])
     requires usable { Usable image.old log }
-    requires number_bound { (number ≤ top_number log.m.size) × (length page.now ≡ 60) }
+    requires number_value { legal_number log.m.size number ≡ true }
     ensures { image.new ≡ page_written image.old number page.now }
 {
-    if can_append(&image[..], log) {
+    if can_append(Partition { image, log }) {
         flash_journal::append(image, log.m, log.used + 1, number, page);
-        return;
+    } else {
+        flash_compaction::compact(image, log, number, page);
     }
-    flash_compaction::compact(image, log, number, page);
 }
 
-// Saves a page as the contents of a number: refusals 6, 8 and 9, or 0. A page that is there already changes nothing.
+#[tactic(auto, unfolding(flash_model::specs::Calls::save_rows, flash_model::specs::Calls::changed_since, flash_model::specs::Update::saved))]
+// Saves a page as the contents of a number: refusals 6, 8 and 9. A page that is there already changes nothing.
 pub fn save_page(
     image: &mut [u8],
     log: OpenedLog,
     number: usize,
     expected: &[u8],
     page: &[u8],
-) -> u8
+) -> Result<(), FlashError>
     requires { Usable image.old log }
-    ensures value { result ≡ save_rows image.old number expected.now page.now }
+    ensures code { result_code result ≡ save_rows image.old number expected.now page.now }
     ensures image_after { image.new ≡ cond (eqb (save_rows image.old number expected.now page.now) 0) (saved image.old number page.now) image.old }
 {
     if !log.m.legal_number(number) {
-        return 6;
+        return Err(FlashError::LogicalNumber);
     }
-    if wrong_lengths(expected, page) {
-        return 8;
-    }
-    let code = changed_row(&image[..], log, number, expected);
-    if code != 0 {
-        return code;
-    }
+    let page = whole_page(expected, page)?;
+    check_seen(Partition { image, log }, number, expected)?;
     // Where a save isn't refused, what was found is what is expected.
-    if same(expected, page) {
-        return 0;
+    if expected != &page[..] {
+        write_page(image, log, number, page);
     }
-    write_page(image, log, number, page);
-    0
+    Ok(())
 }
