@@ -2,15 +2,14 @@
 use Prim.Native.Nat.{ℕ, zero, suc, ◌+◌, ◌-◌, ◌≤◌, ◌<◌}
 use mathlib.Core.Path.{◌≡◌, refl, sym, ap, ◌∙◌}
 use mathlib.Core.Bool.{Bool, true, false, cond, true≢false}
-use mathlib.Core.List.{List}
+use mathlib.Core.List.{List, [], ◌∷◌, ◌++◌, append-nil}
 use Rattle.std.specs.Prelude.{Option, None, Some}
 use native.Mathlib.Omega.{arith}
-use mir.Val.{bool_byte}
 use native.Mathlib.Decide.{ℕ_discrete}
 use native.Mathlib.Numerals.{add-one}
 use lib.Dec.{leb, ltb}
-use lib.ListN.{length, get_or, take, drop, set, length-set, drop_of_length-le}
-use lib.Seq.{drop-cons, length-take-le, get_or-take, get_or-set_same, get_or-set_other}
+use lib.ListN.{length, get_or, drop, length-append, get_or-append, drop_of_length-le}
+use lib.Seq.{drop-cons, get_or-append-add}
 use borrow.Author.Tests.{ltb-true, ltb-false, leb-true, leb-false}
 use Rattle.std.specs.List.{find}
 use Rattle.words.specs.Search.{lowest}
@@ -23,10 +22,16 @@ use Rattle.card_directory.specs.Listed.{NextUsed, reached, Listed}
 pub reached-next : (used : List ℕ) (j i : ℕ) → i ≡ get_or used j 0 → i + 1 ≡ reached used (j + 1)
 reached-next used j i e = rw (add-one j, add-one i, e)
 
--- a store behind the first numbers leaves them
-reached-set : (used : List ℕ) (n x j : ℕ) → j ≤ n → reached (set used n x) j ≡ reached used j
-reached-set used n x zero h = refl
-reached-set used n x (suc j) h = ap suc (get_or-set_other used n j x 0 (λ d. omega arith))
+-- a number behind the list leaves those in front of it
+before-pushed : (used : List ℕ) (x j : ℕ) → j < length used → get_or (used ++ x ∷ []) j 0 ≡ get_or used j 0
+before-pushed used x j h = get_or-append used (x ∷ []) 0 j h
+
+pushed : (used : List ℕ) (x : ℕ) → get_or (used ++ x ∷ []) (length used) 0 ≡ x
+pushed used x = let e : length used ≡ length used + 0 = omega arith in ap (λ (n : ℕ). get_or (used ++ x ∷ []) n 0) e ∙ get_or-append-add used (x ∷ []) 0 0
+
+reached-pushed : (used : List ℕ) (x j : ℕ) → j ≤ length used → reached (used ++ x ∷ []) j ≡ reached used j
+reached-pushed used x zero h = refl
+reached-pushed used x (suc j) h = ap suc (before-pushed used x j h)
 
 module _ (directory : List (List ℕ)) where
   pub listed_start : (used : List ℕ) → Listed directory 0 used 0
@@ -35,26 +40,17 @@ module _ (directory : List (List ℕ)) where
   later : {start i end n : ℕ} → i ≤ end → NextUsed directory start i n → NextUsed directory start end n
   later h u = record { from_start = u.from_start; before_end = omega (arith, u.before_end); is_used_lem = u.is_used_lem; skipped = u.skipped }
 
-  -- a number behind the list
-  listed-behind : {end : ℕ} {used : List ℕ} {count : ℕ} (x : ℕ) → Listed directory end used count → Listed directory end (set used count x) count
-  listed-behind {used = used} {count} x l = record {
-    long = omega (arith, length-set used count x, l.long);
-    fits = l.fits;
-    each = λ j h. rw (get_or-set_other used count j x 0 (λ e. omega arith), reached-set used count x j (omega arith)) (l.each j h);
-    rest = rw (reached-set used count x count (omega arith)) l.rest;
-  }
-
   -- ---- one entry more
 
-  module _ (i : ℕ) {used : List ℕ} {count : ℕ} (l : Listed directory i used count) where
-    reached-before : reached used count ≤ i
-    reached-before = go count refl
-      where
-        go : (n : ℕ) → n ≡ count → reached used n ≤ i
-        go zero e = omega arith
-        go (suc j) e = omega (arith, (l.each j (omega arith)).before_end)
+  reached-before : (i : ℕ) {used : List ℕ} {count : ℕ} → Listed directory i used count → reached used count ≤ i
+  reached-before i {used} {count} l = go count refl
+    where
+      go : (n : ℕ) → n ≡ count → reached used n ≤ i
+      go zero e = omega arith
+      go (suc j) e = omega (arith, (l.each j (omega arith)).before_end)
 
-    unused-next : is_used (entry_at directory i) ≡ false → Listed directory (i + 1) used count
+  module _ (i : ℕ) {used : List ℕ} (l : Listed directory i used (length used)) where
+    unused-next : is_used (entry_at directory i) ≡ false → Listed directory (i + 1) used (length used)
     unused-next u = record {
       long = l.long;
       fits = omega (arith, l.fits);
@@ -62,49 +58,28 @@ module _ (directory : List (List ℕ)) where
       rest = λ k a b. go k a b (ℕ_discrete k i);
     }
       where
-        go : (k : ℕ) → reached used count ≤ k → k < i + 1 → Dec (k ≡ i) → is_used (entry_at directory k) ≡ false
+        go : (k : ℕ) → reached used (length used) ≤ k → k < i + 1 → Dec (k ≡ i) → is_used (entry_at directory k) ≡ false
         go k a b (yes d) = ap (λ (n : ℕ). is_used (entry_at directory n)) d ∙ u
         go k a b (no d) = l.rest k a (omega (arith, d))
 
-    used-next : count < length used → is_used (entry_at directory i) ≡ true → Listed directory (i + 1) (set used count i) (count + 1)
-    used-next b u = record {
-      long = omega (arith, length-set used count i, b);
+    used-next : is_used (entry_at directory i) ≡ true → Listed directory (i + 1) (used ++ i ∷ []) (length used + 1)
+    used-next u = record {
+      long = omega (arith, length-append used (i ∷ []));
       fits = omega (arith, l.fits);
-      each = λ j h. go j h (ℕ_discrete j count);
-      rest = rw (add-one count, new) (λ k a c. absurd (omega arith));
+      each = λ j h. go j h (ℕ_discrete j (length used));
+      rest = rw (add-one (length used), pushed used i) (λ k a c. absurd (omega arith));
     }
       where
-        new : get_or (set used count i) count 0 ≡ i
-        new = get_or-set_same used count i 0 b
-
-        go : (j : ℕ) → j < count + 1 → Dec (j ≡ count) → NextUsed directory (reached (set used count i) j) (i + 1) (get_or (set used count i) j 0)
+        go : (j : ℕ) → j < length used + 1 → Dec (j ≡ length used) → NextUsed directory (reached (used ++ i ∷ []) j) (i + 1) (get_or (used ++ i ∷ []) j 0)
         go j h (yes d) =
-            rw (d, new, reached-set used count i count (omega arith))
-            (record { from_start = reached-before; before_end = omega arith; is_used_lem = u; skipped = l.rest })
+            rw (d, pushed used i, reached-pushed used i (length used) (omega arith))
+            (record { from_start = reached-before i l; before_end = omega arith; is_used_lem = u; skipped = l.rest })
         go j h (no d) =
-            rw (get_or-set_other used count j i 0 d, reached-set used count i j (omega arith)) (later (omega arith) (l.each j (omega (arith, d))))
+            rw (before-pushed used i j (omega (arith, d)), reached-pushed used i j (omega arith)) (later (omega arith) (l.each j (omega (arith, d))))
 
-    pub listed_next : count < length used → (t : Bool) → is_used (entry_at directory i) ≡ t → Listed directory (i + 1) (set used count i) (count + bool_byte t)
-    listed_next b true u = used-next b u
-    listed_next b false u =
-        let e : count + 0 ≡ count = omega arith in
-        rw e (listed-behind i (unused-next u))
-
--- the slice of the numbers of a list is the list
-pub listed-taken : {directory : List (List ℕ)} {used : List ℕ} {end count : ℕ} → Listed directory end used count
-    → Listed directory end (take count used) (length (take count used))
-listed-taken {directory} {used} {end} {count} l =
-    rw (length-take-le count used l.long)
-    (record {
-      long = omega (arith, length-take-le count used l.long);
-      fits = l.fits;
-      each = λ j h. rw (get_or-take count used j 0 h, same-reached j (omega arith)) (l.each j h);
-      rest = rw (same-reached count (omega arith)) l.rest;
-    })
-  where
-    same-reached : (j : ℕ) → j ≤ count → reached (take count used) j ≡ reached used j
-    same-reached zero h = refl
-    same-reached (suc j) h = ap suc (get_or-take count used j 0 h)
+    pub listed_pushed : (t : Bool) → is_used (entry_at directory i) ≡ t → Listed directory (i + 1) (used ++ cond t (i ∷ []) []) (length (used ++ cond t (i ∷ []) []))
+    listed_pushed true u = rw (length-append used (i ∷ [])) (used-next u)
+    listed_pushed false u = rw (append-nil used) (unused-next u)
 
 -- a number of the list
 pub listed_below : {directory : List (List ℕ)} {used : List ℕ} {count : ℕ} → Listed directory 208 used count → (j i : ℕ) → i ≡ get_or used j 0 → j < count → i < 208

@@ -1,6 +1,7 @@
 #![tactic(auto)]
 
 // Runs of bytes and two-byte numbers. The definitions and laws in specs/ and proofs/ serve every format.
+pub mod byte_list;
 pub mod loads;
 
 ghost use Rattle.std.specs.Prelude.{◌≡◌, cond, ◌+◌, ◌≤◌, ◌<◌, length, replicate};
