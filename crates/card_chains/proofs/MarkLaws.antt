@@ -14,10 +14,9 @@ use Rattle.words.proofs.Distinct.{count, one, count_next}
 use Rattle.card_model.specs.declared.Link.{Link}
 use Rattle.card_model.specs.Table.{link_at, free_or_damaged}
 use mir.Val.{bool_byte}
-use Rattle.card_model.specs.Entries.{first_block, size, is_used, entry_at}
-use Rattle.card_model.specs.Files.{chain, chain_of, bad_chain, file_of, files_before, shares_block, is_orphan, orphans}
+use Rattle.card_model.specs.Entries.{is_used, entry_at}
+use Rattle.card_model.specs.Files.{chain_of, bad_chain, file_of, files_before, shares_block, is_orphan, orphans}
 use Rattle.card_model.proofs.EntryLaws.{file-chain, no_file, files-snoc}
-use Rattle.card_chains.specs.declared.walking.Finding.{Finding}
 use Rattle.card_chains.specs.declared.walking.Finding.TheVariants.{Broken}
 use Rattle.card_chains.specs.Marks.{no_marks, is_marked, Lengths, Marking, MarkedFiles, outcome, answer, Walked}
 use Rattle.card_chains.proofs.SetLaws.{any_same}
@@ -43,12 +42,6 @@ same-outcome true true e = refl
 same-outcome true false e = cc
 same-outcome false true e = cc
 same-outcome false false e = refl
-
--- the walk from an entry's fields is along the entry's chain
-pub entry-walked : {table entry s : List ℕ} {b n : ℕ} → s ≡ entry → b ≡ first_block s → n ≡ size s
-    → {found : Finding} {marks marks' : List ℕ} → Walked table (chain table n b) marks found marks' → Walked table (chain_of table entry) marks found marks'
-unfolding chain_of
-entry-walked q r v w = rw (← q, ← r, ← v) w
 
 -- ---- the files' marks
 
@@ -151,16 +144,16 @@ pub record Counted (table : List ℕ) (directory : List (List ℕ)) (count b : �
   pub is_count : count ≡ count_to (is_orphan table directory) b
 
 module _ {table : List ℕ} {directory : List (List ℕ)} where
-  pub counted-none : Counted table directory 0 0
+  pub counted_none : Counted table directory 0 0
   unfolding count_to
-  counted-none = record { small = omega arith; is_count = refl }
+  counted_none = record { small = omega arith; is_count = refl }
 
   -- one block more, by its mark and its entry
-  pub counted-next : {marks : List ℕ} {count b : ℕ} → MarkedFiles table (files_before table directory 208) marks → Counted table directory count b
+  pub counted_next : {marks : List ℕ} {count b : ℕ} → MarkedFiles table (files_before table directory 208) marks → Counted table directory count b
       → {l : Link} → l ≡ link_at table b → {unused : Bool} → unused ≡ free_or_damaged l
       → {k : ℕ} → k ≡ bool_byte (eqb (get_or marks b 0) 0 && not unused) → Counted table directory (count + k) (b + 1)
   unfolding is_orphan is_marked
-  counted-next {marks} {count} {b} f c p v {k} w = record {
+  counted_next {marks} {count} {b} f c p v {k} w = record {
     small = omega (arith, c.small, one-small (is_orphan table directory b), k-is);
     is_count = omega (arith, c.is_count, count_to-next (is_orphan table directory) b, k-is);
   }
@@ -178,6 +171,6 @@ module _ {table : List ℕ} {directory : List (List ℕ)} where
       one-small true = omega arith
       one-small false = omega arith
 
-  pub counted-all : {count b : ℕ} → Counted table directory count b → b ≡ 200 → count ≡ orphans table directory
+  pub counted_all : {count b : ℕ} → Counted table directory count b → b ≡ 200 → count ≡ orphans table directory
   unfolding orphans count_to
-  counted-all c e = c.is_count ∙ rw e
+  counted_all c e = c.is_count ∙ rw e

@@ -1,6 +1,6 @@
 -- Steps along the table, and the blocks of a chain that they lead to. Assumes nothing.
 use Prim.Native.Nat.{ℕ, zero, suc, ◌-◌, ◌<◌}
-use mathlib.Core.Path.{◌≡◌, refl, sym, ◌∙◌}
+use mathlib.Core.Path.{◌≡◌, refl}
 use mathlib.Core.List.{List}
 use Rattle.std.specs.Prelude.{Some}
 use native.Mathlib.Omega.{arith}

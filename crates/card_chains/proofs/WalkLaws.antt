@@ -21,13 +21,9 @@ use Rattle.card_chains.specs.declared.walking.Finding.TheVariants.{Apart, Shared
 use Rattle.card_chains.specs.Marks.{is_marked, Lengths, Walkable, Walked}
 use Rattle.card_chains.proofs.SetLaws.{marked-set, set-each, any_same}
 
-pub step_below : (table : List ℕ) (b n : ℕ) → link_at table b ≡ Next n → n < 200
+pub step_below : (table : List ℕ) (b n : ℕ) (l : Link) → l ≡ link_at table b → l ≡ Next n → n < 200
 unfolding link_at
-step_below table b n told = next-below _ n told
-
-pub chain-none : (table : List ℕ) (left b : ℕ) → left ≡ 0 → chain table left b ≡ None
-unfolding chain
-chain-none table left b q = rw q
+step_below table b n l q told = next-below _ n (sym q ∙ told)
 
 chain-step : (table : List ℕ) (left b : ℕ) {l : Link} → (left ≡ 0 → ⊥) → link_at table b ≡ l
     → chain table left b ≡ chain_step l b (left - 1) (λ n. chain table (left - 1) n)
@@ -36,19 +32,6 @@ chain-step table zero b h told = absurd (h refl)
 chain-step table (suc left) b h told =
     let e : suc left - 1 ≡ left = omega arith in
     rw (told, e)
-
--- a block that is in no chain
-pub chain-stop : (table : List ℕ) (left b : ℕ) → (left ≡ 0 → ⊥) → (link_at table b ≡ Last → ⊥) → ((n : ℕ) → link_at table b ≡ Next n → ⊥)
-    → chain table left b ≡ None
-unfolding chain_step
-chain-stop table left b h no-last no-next = go (link_at table b) refl
-  where
-    go : (l : Link) → link_at table b ≡ l → chain table left b ≡ None
-    go Last q = absurd (no-last q)
-    go (Next n) q = absurd (no-next n q)
-    go Free q = chain-step table left b h q
-    go Damaged q = chain-step table left b h q
-    go Bad q = chain-step table left b h q
 
 -- ---- the walk
 
@@ -61,15 +44,29 @@ module _ (table : List ℕ) where
       go None e p = absurd (false≢true p)
       go (Some bs) e p = links-same table (chain-links table m b bs e) (chain-links table n b cs f)
 
-  pub walked-broken : {o : Option (List ℕ)} (marks marks' : List ℕ) → o ≡ None → Walked table o marks Broken marks'
+  walked-broken : {o : Option (List ℕ)} (marks marks' : List ℕ) → o ≡ None → Walked table o marks Broken marks'
   walked-broken marks marks' e = record {
     answers = rw e;
     are_lengths = λ s. absurd (false≢true (sym (ap is_some e) ∙ s));
     marked = λ bs f. absurd (false≢true (sym (ap is_some e) ∙ ap is_some f));
   }
 
-  pub walkable-start : (marks : List ℕ) (left b : ℕ) → Lengths table marks → Walkable table marks left b
-  walkable-start marks left b l = record { many = l.long; up_to_left = λ x e h. l.each x e; all_if_good = λ s. l }
+  pub walked_none : (marks : List ℕ) (b left : ℕ) → left ≡ 0 → Walked table (chain table left b) marks Broken marks
+  unfolding chain
+  walked_none marks b left q = walked-broken marks marks (rw q)
+
+  -- at a block that is in no chain
+  pub walked_stop : (marks marks' : List ℕ) (b left : ℕ) → (left ≡ 0 → ⊥) → (l : Link) → l ≡ link_at table b → (l ≡ Last → ⊥) → ((n : ℕ) → l ≡ Next n → ⊥)
+      → Walked table (chain table left b) marks Broken marks'
+  unfolding chain_step
+  walked_stop marks marks' b left h l q no-last no-next = walked-broken marks marks' (go l (sym q) no-last no-next)
+    where
+      go : (l : Link) → link_at table b ≡ l → (l ≡ Last → ⊥) → ((n : ℕ) → l ≡ Next n → ⊥) → chain table left b ≡ None
+      go Last q no-last no-next = absurd (no-last refl)
+      go (Next n) q no-last no-next = absurd (no-next n refl)
+      go Free q no-last no-next = chain-step table left b h q
+      go Damaged q no-last no-next = chain-step table left b h q
+      go Bad q no-last no-next = chain-step table left b h q
 
   -- at block b, with `left` blocks left
   module _ (marks : List ℕ) (b left : ℕ) (k : Walkable table marks left b) where
@@ -79,8 +76,8 @@ module _ (table : List ℕ) where
       unfolding is_marked
       is-marked = rw (← m, ne_eqb mark 0 h)
 
-      pub walked-met : {found : Finding} → found ≡ cond (eqb mark left) Shared Broken → Walked table (chain table left b) marks found marks
-      walked-met {found} q = go (chain table left b) refl (eqb mark left) refl
+      pub walked_met : {found : Finding} → found ≡ cond (eqb mark left) Shared Broken → Walked table (chain table left b) marks found marks
+      walked_met {found} q = go (chain table left b) refl (eqb mark left) refl
         where
           go : (o : Option (List ℕ)) → chain table left b ≡ o → (t : Bool) → eqb mark left ≡ t → Walked table o marks found marks
           go None e true d =
@@ -100,7 +97,7 @@ module _ (table : List ℕ) where
               }
 
     -- the block is not marked, and gets its mark
-    module _ (some_left : left ≡ 0 → ⊥) (below : b < 200) (new : get_or marks b 0 ≡ 0) where
+    module _ (some_left : left ≡ 0 → ⊥) (below : b < 200) {mark : ℕ} (m : mark ≡ get_or marks b 0) (new : mark ≡ 0) {l : Link} (of-block : l ≡ link_at table b) where
       long : b < length marks
       long = rw k.many below
 
@@ -109,18 +106,18 @@ module _ (table : List ℕ) where
 
       unmarked : is_marked marks b ≡ false
       unfolding is_marked
-      unmarked = rw new
+      unmarked = rw (← m, new)
 
       set-lengths : is_some (chain table left b) ≡ true → Lengths table (set marks b left)
       set-lengths s = record { long = set-many; each = set-each marks b left long (λ x m. is_some (chain table m x) ≡ true) s (k.all_if_good s).each }
 
-      pub walked-last : link_at table b ≡ Last → {found : Finding} → found ≡ cond (eqb left 1) Apart Broken
+      pub walked_last : l ≡ Last → {found : Finding} → found ≡ cond (eqb left 1) Apart Broken
           → Walked table (chain table left b) marks found (set marks b left)
       unfolding chain_step
-      walked-last told {found} q = go (eqb left 1) refl
+      walked_last told {found} q = go (eqb left 1) refl
         where
           e : chain table left b ≡ cond (eqb (left - 1) 0) (Some (b ∷ [])) None
-          e = chain-step table left b some_left told
+          e = chain-step table left b some_left (sym of-block ∙ told)
 
           go : (t : Bool) → eqb left 1 ≡ t → Walked table (chain table left b) marks found (set marks b left)
           go true d =
@@ -134,13 +131,13 @@ module _ (table : List ℕ) where
               let g : found ≡ Broken = q ∙ rw d in
               rw g (walked-broken marks (set marks b left) (e ∙ rw f))
 
-      module _ (n : ℕ) (told : link_at table b ≡ Next n) where
+      module _ (n : ℕ) (told : l ≡ Next n) where
         e : chain table left b ≡ option_map (λ (blocks : List ℕ). b ∷ blocks) (chain table (left - 1) n)
         unfolding chain_step
-        e = chain-step table left b some_left told
+        e = chain-step table left b some_left (sym of-block ∙ told)
 
-        walkable-next : Walkable table (set marks b left) (left - 1) n
-        walkable-next = record {
+        pub walkable_next : Walkable table (set marks b left) (left - 1) n
+        walkable_next = record {
           many = set-many;
           up_to_left = set-each marks b left long (λ x m. m ≤ left - 1 → is_some (chain table m x) ≡ true)
               (λ h. absurd (omega (arith, some_left)))
@@ -151,10 +148,6 @@ module _ (table : List ℕ) where
             maps : (o : Option (List ℕ)) → is_some (option_map (λ (blocks : List ℕ). b ∷ blocks) o) ≡ is_some o
             maps None = refl
             maps (Some bs) = refl
-
-        -- what the walk from the next block asks
-        pub next-asked : left ≤ 200 → ((n < 200) × (left - 1 ≤ 200)) × Walkable table (set marks b left) (left - 1) n
-        next-asked h = ((step_below table b n told, omega (arith, h)), walkable-next)
 
         pub walked_next : {found : Finding} {marks' : List ℕ} → Walked table (chain table (left - 1) n) (set marks b left) found marks'
             → Walked table (chain table left b) marks found marks'
