@@ -13,8 +13,8 @@ ghost use Rattle.flash_pages.specs.Rows.{read_buffer, can_append};
 use flash_model::FlashError;
 use flash_partition::partition::{OpenedLog, Partition};
 
-#[tactic(auto, using(crate::proofs::ReadLaws::holder_high), unfolding(flash_model::specs::Partition::contents, flash_model::specs::UserBlock::payload))]
 // The page that is the contents of a number, which callers have tested, if there are any.
+#[tactic(auto, using(crate::proofs::ReadLaws::holder_high), unfolding(flash_model::specs::Partition::contents, flash_model::specs::UserBlock::payload))]
 pub fn contents<'a>(p: Partition<'a>, number: usize) -> Option<&'a [u8; 60]>
     requires { legal_number p.log.m.size number ≡ true }
     ensures { option_copied result ≡ contents p.entry.image.now number }
@@ -23,8 +23,8 @@ pub fn contents<'a>(p: Partition<'a>, number: usize) -> Option<&'a [u8; 60]>
     p.block(k)[2..62].as_array()
 }
 
-#[tactic(auto, unfolding(flash_model::specs::Calls::read_rows, crate::specs::Rows::read_buffer))]
 // Reads the contents of a number into the page: refusals 6, 8 and 7.
+#[tactic(auto, unfolding(flash_model::specs::Calls::read_rows, crate::specs::Rows::read_buffer))]
 pub fn read_page(p: Partition<'_>, number: usize, page: &mut [u8]) -> Result<(), FlashError>
     ensures code { result_code result ≡ read_rows p.entry.image.now number page.old }
     ensures page_after { page.new ≡ read_buffer p.entry.image.now number page.old }
@@ -42,8 +42,8 @@ pub fn read_page(p: Partition<'_>, number: usize, page: &mut [u8]) -> Result<(),
     Ok(())
 }
 
-#[tactic(auto, unfolding(flash_model::specs::Calls::wrong_lengths))]
 // The page as 60 bytes: refusal 8 where it has another length, or where what is expected has neither 0 nor 60.
+#[tactic(auto, unfolding(flash_model::specs::Calls::wrong_lengths))]
 pub fn whole_page<'a>(expected: &[u8], page: &'a [u8]) -> Result<&'a [u8; 60], FlashError>
     ensures code { result_code result ≡ row 8 (wrong_lengths expected.now page.now) 0 }
     ensures page { IfOk result (λ whole. whole.now ≡ page.now) }
@@ -57,8 +57,8 @@ pub fn whole_page<'a>(expected: &[u8], page: &'a [u8]) -> Result<&'a [u8; 60], F
     Ok(whole)
 }
 
-#[tactic(auto, unfolding(flash_model::specs::Calls::changed_since))]
 // Whether the contents of the number are what is expected, 0 bytes being nothing: refusal 9 where they are not.
+#[tactic(auto, unfolding(flash_model::specs::Calls::changed_since))]
 fn check_seen(p: Partition<'_>, number: usize, expected: &[u8]) -> Result<(), FlashError>
     requires { legal_number p.log.m.size number ≡ true }
     ensures { result_code result ≡ row 9 (changed_since p.entry.image.now number expected.now) 0 }
@@ -73,8 +73,8 @@ fn check_seen(p: Partition<'_>, number: usize, expected: &[u8]) -> Result<(), Fl
     Ok(())
 }
 
-#[tactic(auto, using(crate::proofs::StoreRules::append_full, crate::proofs::StoreRules::append_blank_block))]
 // Whether a free user block exists and the lowest free one holds 64 bytes of FF.
+#[tactic(auto, using(crate::proofs::StoreRules::append_full, crate::proofs::StoreRules::append_blank_block))]
 fn can_append(p: Partition<'_>) -> bool
     ensures { result ≡ can_append (append_block p.entry.image.now) }
 {
@@ -94,8 +94,8 @@ fn write_page(image: &mut [u8], log: OpenedLog, number: usize, page: &[u8; 60])
     }
 }
 
-#[tactic(auto, unfolding(flash_model::specs::Calls::save_rows, flash_model::specs::Calls::changed_since, flash_model::specs::Update::saved))]
 // Saves a page as the contents of a number: refusals 6, 8 and 9. A page that is there already changes nothing.
+#[tactic(auto, unfolding(flash_model::specs::Calls::save_rows, flash_model::specs::Calls::changed_since, flash_model::specs::Update::saved))]
 pub fn save_page(
     image: &mut [u8],
     log: OpenedLog,
