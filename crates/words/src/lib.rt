@@ -11,61 +11,46 @@ ghost use Rattle.words.specs.Words as bytes;
 pub fn wide(x: u8) -> usize
     ensures { (result ≡ x) × (result < 256) }
 {
-    x as usize
+    usize::from(x)
 }
 
 // A test as a number to count with.
 pub fn one_if(test: bool) -> usize
     ensures { (result ≡ cond test 1 0) × (result ≤ 1) }
 {
-    if test {
-        return 1;
-    }
-    0
+    usize::from(test)
 }
 
 // The two-byte number at place i.
+#[tactic(auto, unfolding(crate::specs::Words::word))]
 pub fn word(s: &[u8], i: usize) -> usize
     requires { i + 1 < length s.now }
     ensures { (result ≡ bytes.word s.now i) × (result < 65536) }
 {
-    wide(s[i]) + 256 * wide(s[i + 1])
+    usize::from(u16::from_le_bytes([s[i], s[i + 1]]))
 }
 
 // Writes a number as the two bytes of a part.
+#[tactic(auto, unfolding(crate::specs::Words::word_bytes))]
 pub fn put_word(part: &mut [u8], n: usize)
     requires { (length part.old ≡ 2) × (n < 65536) }
     ensures { part.new ≡ bytes.word_bytes n }
 {
-    part[0] = (n % 256) as u8;
-    part[1] = (n / 256 % 256) as u8;
+    part.copy_from_slice(&(n as u16).to_le_bytes());
 }
 
-// Whether two runs have the same length and the same bytes. The loop has no early exit: several bytes go in one step.
+// Whether two runs have the same length and the same bytes.
 pub fn same(a: &[u8], b: &[u8]) -> bool
     ensures { result ≡ bytes.same_bytes a.now b.now }
 {
-    if a.len() != b.len() {
-        return false;
-    }
-    let mut alike = true;
-    let mut i = 0;
-    while i < a.len() {
-        alike = alike & (a[i] == b[i]);
-        i += 1;
-    }
-    alike
+    a == b
 }
 
 // Makes every byte of a part the same.
 pub fn fill(part: &mut [u8], value: u8)
     ensures { part.new ≡ replicate (length part.old) value }
 {
-    let mut i = 0;
-    while i < part.len() {
-        part[i] = value;
-        i += 1;
-    }
+    part.fill(value);
 }
 
 // Copies a run over a part of the same length.
