@@ -1,8 +1,9 @@
 // The running value byte by byte, for what is no whole word.
-ghost use Rattle.std.specs.Prelude.{◌≡◌, drop};
+ghost use Rattle.std.specs.Prelude.{◌≡◌};
 ghost use Rattle.checksum.specs.Crc as sum;
 
 // One shift left, with 4129 added by exclusive or where the top bit falls out.
+#[tactic(auto, unfolding(crate::specs::Crc::shift))]
 fn shift(n: u16) -> u16
     ensures { result ≡ sum.shift n }
 {
@@ -11,27 +12,21 @@ fn shift(n: u16) -> u16
 
 // The running value n with the byte b taken into its top half. The eight shifts are a loop: written out by hand they are several
 // times slower.
+#[tactic(auto, unfolding(crate::specs::Crc::take_byte, crate::specs::Crc::shifts))]
 fn take_byte(n: u16, b: u8) -> u16
     ensures { result ≡ sum.take_byte n b }
 {
-    let mut v = n ^ ((b as u16) << 8);
-    let mut k: usize = 0;
-    while k < 8 {
+    let mut v = n ^ (u16::from(b) << 8);
+    for _ in 0..8u8 {
         v = shift(v);
-        k += 1;
     }
     v
 }
 
-// The running value `start` with the bytes from a place on taken into it.
-pub fn take_bytes_from(bytes: &[u8], from: usize, start: u16) -> u16
-    ensures { result ≡ sum.crc_from start (drop from bytes.now) }
+// The running value `start` with these bytes taken into it.
+#[tactic(auto, using(crate::proofs::CrcLaws::crc_is_fold))]
+pub fn take_bytes(bytes: &[u8], start: u16) -> u16
+    ensures { result ≡ sum.crc_from start bytes.now }
 {
-    let mut n = start;
-    let mut i = from;
-    while i < bytes.len() {
-        n = take_byte(n, bytes[i]);
-        i += 1;
-    }
-    n
+    bytes.iter().fold(start, |n, b| take_byte(n, *b))
 }

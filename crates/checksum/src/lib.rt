@@ -11,7 +11,7 @@ ghost use Rattle.std.specs.Prelude.{◌≡◌};
 ghost use Rattle.checksum.specs.Crc.{crc_from, checksum_of};
 
 use crate::block::of_block;
-use crate::bytewise::take_bytes_from;
+use crate::bytewise::take_bytes;
 use crate::folding::{fold16, fold64, remainder};
 use crate::runs::of_run;
 use words::loads::big8;
@@ -20,17 +20,17 @@ use words::loads::big8;
 fn of_words(bytes: &[u8]) -> u16
     ensures { result ≡ crc_from 65535 bytes.now }
 {
+    let (words, rest) = bytes.as_chunks::<8>();
     let mut a: u64 = 33999;
-    let mut i: usize = 0;
-    while 8 <= bytes.len() - i {
-        a = fold64(a) ^ big8(bytes, i);
-        i += 8;
+    for word in words {
+        a = fold64(a) ^ big8(word, 0);
     }
-    take_bytes_from(bytes, i, fold16(remainder(a)))
+    take_bytes(rest, fold16(remainder(a)))
 }
 
 // The checksum of these bytes; that of a run of 62, which a block of an image has, and of one that ends as a slot's 110 do, by quicker
 // ways. For a block of an image, lend the part that begins there.
+#[tactic(auto, unfolding(crate::specs::Crc::checksum_of))]
 pub fn checksum(bytes: &[u8]) -> u16
     ensures { result ≡ checksum_of bytes.now }
 {

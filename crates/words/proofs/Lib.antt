@@ -10,3 +10,4 @@ pub mod PartsLaws
 pub mod BigLaws
 pub mod LittleLaws
 pub mod SameLaws
+pub mod ChunkLaws

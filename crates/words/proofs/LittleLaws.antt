@@ -1,6 +1,6 @@
 -- Laws of the number that bytes make little endian, over how many they are.
 -- Assumes nothing.
-use Prim.Native.Nat.{ℕ, zero, suc, ◌+◌, ◌-◌, ◌*◌, ◌/◌, ◌%◌, ◌^◌, ◌<◌}
+use Prim.Native.Nat.{ℕ, zero, suc, ◌+◌, ◌-◌, ◌*◌, ◌/◌, ◌%◌, ◌^◌, ◌<◌, ◌≤◌}
 use mathlib.Core.Path.{◌≡◌, refl, sym, ap, ◌∙◌, subst, subst⁻¹}
 use mathlib.Core.List.{List}
 use native.Mathlib.Nat.{add-zero}
@@ -9,7 +9,7 @@ use lib.ListN.{get_or, take, drop}
 use Rattle.std.specs.Int.{w64, from_le_bytes}
 use Rattle.std.specs.Array.{IsWholeChunk}
 use Rattle.words.specs.LittleEndian.{LittleMade, Little, repeated}
-use Rattle.words.proofs.BigLaws.{pow-next, lent-byte}
+use Rattle.words.proofs.BigLaws.{pow-next, lent-byte, part-byte}
 
 -- a word without its first byte
 rest : {n : ℕ} {s : List ℕ} {at w : ℕ} → Little (suc n) s at w → Little n s (at + 1) (w / 256)
@@ -50,6 +50,17 @@ module _ (s : List ℕ) (fit : (i : ℕ) → get_or s i 0 < 256) (at : ℕ) wher
       let byte = lent-byte s at bytes lent in
       let same : made s at 0 8 ≡ w = omega arith in
       subst (λ (i : ℕ). Little 8 s i w) (add-zero at) (subst (Little 8 s (at + 0)) same (little-made 8 0))
+
+-- the number of a part is that of its bytes in the whole
+pub little-part : (n at m : ℕ) {s : List ℕ} {w : ℕ} → n ≤ m → Little n (take m (drop at s)) 0 w → Little n s at w
+little-part n at m {s} {w} h known = subst (λ (i : ℕ). Little n s i w) (add-zero at) (from n 0 (omega arith) known)
+  where
+    from : (n k : ℕ) {w : ℕ} → k + n ≤ m → Little n (take m (drop at s)) k w → Little n s (at + k) w
+    from zero k h known = record { says = known.says }
+    from (suc n) k {w} h known =
+        let next : at + (k + 1) ≡ at + k + 1 = omega arith in
+        let later = subst (λ (i : ℕ). Little n s i (w / 256)) next (from n (k + 1) (omega arith) (record { says = known.says.1 })) in
+        record { says = (sym (part-byte s at m k (omega arith)) ∙ known.says.0, later.says) }
 
 -- ---- bytes that are all alike
 

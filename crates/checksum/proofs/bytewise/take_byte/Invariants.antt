@@ -1,10 +1,7 @@
--- After k turns the value has been shifted k times.
-use Rattle.std.proofs.Common.{◌≡◌, ◌≤◌, ◌-◌}
+-- The value has been shifted as often as the loop has turned.
+use Rattle.std.proofs.Common.{◌≡◌}
 use Rattle.checksum.specs.Crc.{shifts}
 use Rattle.checksum.proofs.bytewise.take_byte.Given as goal
 
-abbrev pub invariant-loop-k : goal.invariant-loop-k
-invariant-loop-k l = (l.k ≤ 8) × (l.v ≡ shifts l.k l.initial.v)
-
-abbrev pub decreases-loop-k : goal.decreases-loop-k
-decreases-loop-k l = 8 - l.k
+abbrev pub invariant-loop : goal.invariant-loop
+invariant-loop l = l.v ≡ shifts l.counter l.initial.v
