@@ -169,12 +169,12 @@ pub behind-nothing : (k x : ℕ) → behind 0 k x ≡ x
 unfolding behind
 behind-nothing k x = ap (bit_xor x) (shifts-zero k) ∙ xor_zero_r x
 
-pub crc-taken : (n : ℕ) {s : List ℕ} {at w : ℕ} (x t : ℕ) → x < 65536 → t ≡ bit_xor (shifts (n * 8) x) (rem_little n w) → Little n s at w → at + n ≤ length s
-    → crc_from (shifts 16 x) (drop at s) ≡ crc_from (shifts 16 t) (drop (at + n) s)
-crc-taken n {s} {at} x t h e known long =
+pub crc-taken : (n : ℕ) {s : List ℕ} {at w : ℕ} (x t next : ℕ) → x < 65536 → t ≡ bit_xor (shifts (n * 8) x) (rem_little n w) → Little n s at w → at + n ≤ length s
+    → at + n ≡ next → crc_from (shifts 16 x) (drop at s) ≡ crc_from (shifts 16 t) (drop next s)
+crc-taken n {s} {at} x t next h e known long behind =
     ap (λ (y : ℕ). crc_from (shifts 16 y) (drop at s)) (sym (behind-nothing 0 x))
     ∙ crc-behind 0 (lit< tt) n 0 x t h e known long
-    ∙ ap (λ (y : ℕ). crc_from (shifts 16 y) (drop (at + n) s)) (behind-nothing (n * 8 + 0) t)
+    ∙ ap₂ (λ (y i : ℕ). crc_from (shifts 16 y) (drop i s)) (behind-nothing (n * 8 + 0) t) behind
 
 pub crc-taken-last : {s : List ℕ} {at w : ℕ} (x t : ℕ) → x < 65536 → t ≡ bit_xor (shifts 64 x) (rem_little 8 w) → Little 6 s at w → length s ≡ at + 6
     → crc_from (shifts 16 x) (drop at s) ≡ t

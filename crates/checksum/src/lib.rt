@@ -34,10 +34,10 @@ fn of_words(bytes: &[u8]) -> u16
 pub fn checksum(bytes: &[u8]) -> u16
     ensures { result ≡ checksum_of bytes.now }
 {
-    if bytes.len() == 62 {
-        return of_block(bytes);
+    if let Some(block) = bytes.as_array() {
+        return of_block(block);
     }
-    if (38 <= bytes.len()) & (bytes.len() % 8 == 6) {
+    if 38 <= bytes.len() && bytes.len() % 8 == 6 {
         return !of_run(bytes);
     }
     !of_words(bytes)

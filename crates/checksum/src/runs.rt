@@ -3,7 +3,7 @@
 ghost use Rattle.std.specs.Prelude.{◌≡◌, ◌≤◌, ◌%◌, length};
 ghost use Rattle.checksum.specs.Crc.{crc_from};
 
-use crate::block::{Four, remainder_of_four, take_word};
+use crate::block::Four;
 use words::loads::{little6_of8, little8};
 
 // The running value after such a run of 38 bytes or more. To start from FFFF is to start from 0 with the
@@ -12,16 +12,14 @@ pub fn of_run(bytes: &[u8]) -> u16
     requires { (38 ≤ length bytes.now) × (length bytes.now % 8 ≡ 6) }
     ensures { result ≡ crc_from 65535 bytes.now }
 {
+    let (words, _) = bytes.as_chunks::<8>();
+    let first = Four::load(bytes);
     let mut f = Four {
-        a: little8(bytes, 0) ^ 65535,
-        b: little8(bytes, 8),
-        c: little8(bytes, 16),
-        d: little8(bytes, 24),
+        a: first.a ^ 65535,
+        ..first
     };
-    let mut i: usize = 32;
-    while 8 <= bytes.len() - i {
-        f = take_word(f, little8(bytes, i));
-        i += 8;
+    for word in &words[4..] {
+        f = f.take_word(little8(word, 0));
     }
-    remainder_of_four(take_word(f, little6_of8(bytes, i - 2)))
+    f.take_word(little6_of8(bytes, bytes.len() - 8)).remainder()
 }

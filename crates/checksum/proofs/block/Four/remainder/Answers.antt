@@ -1,0 +1,11 @@
+use Rattle.std.proofs.Common.{◌∙◌}
+use Rattle.checksum.proofs.FourLaws.{four-remainder}
+use Rattle.checksum.proofs.block.Four.remainder.Goals as goal
+
+pub returns : goal.returns
+returns c =
+    let f = c.args.self in
+    let t = c.fold128-t in
+    let v = c.fold128-v in
+    c.remainder.ensures ∙ four-remainder f.a f.b f.c f.d t.result.0 t.result.1 v.result.0 v.result.1
+    c.swap_bytes.result c.swap_bytes-2.result c.fold64.result t.ensures v.ensures c.swap_bytes.ensures c.fold64.ensures c.swap_bytes-2.ensures
