@@ -5,6 +5,7 @@
 use Rattle.std.specs.Prelude.{ℕ, zero, suc, ◌*◌, ◌/◌, ◌%◌}
 use Rattle.std.specs.Int.Bits.{bit_xor}
 use Rattle.checksum.specs.Crc.{shift, shifts}
+use Rattle.checksum.specs.declared.block.Four.{Four}
 
 -- the remainder of the polynomial whose coefficients are the last k digits of n
 unfoldable pub rem : ℕ → ℕ → ℕ
@@ -25,3 +26,7 @@ rem_three a b c = bit_xor (shifts 64 (rem_two a b)) (rem_little 8 c)
 
 unfoldable pub rem_four : ℕ → ℕ → ℕ → ℕ → ℕ
 rem_four a b c d = bit_xor (shifts 64 (rem_three a b c)) (rem_little 8 d)
+
+-- the same of the four that the code carries
+abbrev pub rem_of : Four → ℕ
+rem_of f = rem_four f.a f.b f.c f.d

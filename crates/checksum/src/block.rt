@@ -5,7 +5,7 @@ ghost use Rattle.std.specs.Prelude.{◌≡◌, ◌≤◌, length};
 ghost use Rattle.std.specs.Int.Bits.{bit_xor};
 ghost use Rattle.words.specs.LittleEndian.{Little};
 ghost use Rattle.checksum.specs.Crc.{shifts, checksum_of};
-ghost use Rattle.checksum.specs.Polynomial.{rem, rem_little, rem_two, rem_three, rem_four};
+ghost use Rattle.checksum.specs.Polynomial.{rem, rem_little, rem_two, rem_three, rem_of};
 
 use crate::folding::{fold64, remainder};
 use words::loads::{little6_of8, little8};
@@ -38,7 +38,7 @@ impl Four {
 
     // Four words that take a fifth behind them, folded into four.
     pub fn take_word(self, e: u64) -> Four
-        ensures { rem_four result.a result.b result.c result.d ≡ bit_xor (shifts 64 (rem_four self.a self.b self.c self.d)) (rem_little 8 e) }
+        ensures { rem_of result ≡ bit_xor (shifts 64 (rem_of self)) (rem_little 8 e) }
     {
         Four {
             a: self.b ^ self.a,
@@ -50,7 +50,7 @@ impl Four {
 
     // The remainder of the four words.
     pub fn remainder(self) -> u16
-        ensures { result ≡ rem_four self.a self.b self.c self.d }
+        ensures { result ≡ rem_of self }
     {
         let (t, u) = fold128(self.a, self.b, self.c);
         let (v, w) = fold128(t, u, self.d);
