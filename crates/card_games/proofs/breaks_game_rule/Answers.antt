@@ -39,7 +39,7 @@ rises-requires-clause-chained c =
 
 pub returns-then-blocks-gt-MOST : goal.returns-then-blocks-gt-MOST
 returns-then-blocks-gt-MOST c =
-    lt-ltb 128 _ c.if-blocks-gt-MOST.true
+    lt-ltb _ _ c.if-blocks-gt-MOST.true
     ∙ too_large _ _ c.entry_at-entry.ensures _ (sym c.is_game.ensures ∙ c.if-not-is_game.false) (sym c.game_before.ensures ∙ c.if-game_before.false)
     (sym c.first_block.ensures ∙ c.if-first_block-ne0.false) (omega (arith, c.size-blocks.ensures))
 
