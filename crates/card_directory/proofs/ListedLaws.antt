@@ -2,7 +2,7 @@
 use Prim.Native.Nat.{ℕ, zero, suc, ◌+◌, ◌-◌, ◌≤◌, ◌<◌}
 use mathlib.Core.Path.{◌≡◌, refl, sym, ap, ◌∙◌}
 use mathlib.Core.Bool.{Bool, true, false, cond, true≢false}
-use mathlib.Core.List.{List, [], ◌∷◌, ◌++◌, append-nil}
+use mathlib.Core.List.{List, [], ◌∷◌, ◌++◌}
 use Rattle.std.specs.Prelude.{Option, None, Some}
 use native.Mathlib.Omega.{arith}
 use native.Mathlib.Decide.{ℕ_discrete}
@@ -77,9 +77,9 @@ module _ (directory : List (List ℕ)) where
         go j h (no d) =
             rw (before-pushed used i j (omega (arith, d)), reached-pushed used i j (omega arith)) (later (omega arith) (l.each j (omega (arith, d))))
 
-    pub listed_pushed : (t : Bool) → is_used (entry_at directory i) ≡ t → Listed directory (i + 1) (used ++ cond t (i ∷ []) []) (length (used ++ cond t (i ∷ []) []))
+    pub listed_pushed : (t : Bool) → is_used (entry_at directory i) ≡ t → Listed directory (i + 1) (cond t (used ++ i ∷ []) used) (length (cond t (used ++ i ∷ []) used))
     listed_pushed true u = rw (length-append used (i ∷ [])) (used-next u)
-    listed_pushed false u = rw (append-nil used) (unused-next u)
+    listed_pushed false u = unused-next u
 
 -- a number of the list
 pub listed_below : {directory : List (List ℕ)} {used : List ℕ} {count : ℕ} → Listed directory 208 used count → (j i : ℕ) → i ≡ get_or used j 0 → j < count → i < 208

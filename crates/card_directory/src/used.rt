@@ -20,7 +20,7 @@ pub fn list_used(card: &[u8; LENGTH]) -> UsedEntries
 {
     let mut used = UsedEntries::new();
     for i in 0..208 {
-        used.push_if(is_used(entry_at(card, i)), i as u8);
+        used.push_if(i as u8, is_used(entry_at(card, i)));
     }
     used
 }

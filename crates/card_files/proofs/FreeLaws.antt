@@ -1,42 +1,36 @@
 -- The list of the free blocks as the pass over the table makes it. Assumes nothing.
-use Prim.Native.Nat.{ℕ, suc, ◌+◌, ◌≤◌}
+use Prim.Native.Nat.{ℕ, suc, ◌+◌, ◌-◌, ◌≤◌, ◌<◌}
 use mathlib.Core.Path.{◌≡◌, refl, ◌∙◌}
-use mathlib.Core.Bool.{Bool, true, false}
-use mathlib.Core.List.{List, ◌++◌}
-use mir.Val.{bool_byte}
+use mathlib.Core.Bool.{Bool, true, false, cond}
+use mathlib.Core.List.{List, [], ◌∷◌, ◌++◌, append_assoc}
 use native.Mathlib.Omega.{arith}
-use native.Mathlib.Numerals.{add-one}
-use lib.ListN.{length, take, set, length-set}
-use lib.Seq.{take-set-le, take-suc-set, append_snoc}
+use lib.ListN.{length, length-append}
 use Rattle.words.specs.Lists.{keep}
-use Rattle.card_model.specs.Table.{link_at, is_free}
+use Rattle.card_model.specs.declared.Link.{Link}
+use Rattle.card_model.specs.Table.{fat_entry, link_of, link_at, is_free}
 use Rattle.card_updates.specs.Write.{numbers_down, free_blocks}
 
--- the pass has come down to block b: the first `count` numbers, then the free blocks below b, are all free blocks
-pub record FreeTo (table : List ℕ) (b : ℕ) (free : List ℕ) (count : ℕ) : Type 0 where
-  pub long : length free ≡ 200
-  pub fits : count + b ≤ 200
-  pub listed : take count free ++ keep (λ c. is_free (link_at table c)) (numbers_down b) ≡ free_blocks table
+-- the pass has come down to block b: what is listed, then the free blocks below b, are all free blocks
+pub record FreeTo (table : List ℕ) (b : ℕ) (free : List ℕ) : Type 0 where
+  pub fits : length free + b ≤ 200
+  pub listed : free ++ keep (λ c. is_free (link_at table c)) (numbers_down b) ≡ free_blocks table
+
+pub free_start : (table : List ℕ) {free : List ℕ} → free ≡ [] → FreeTo table 200 free
+unfolding free_blocks
+free_start table e = rw e (record { fits = omega arith; listed = refl })
 
 module _ (table : List ℕ) where
-  pub free-start : (free : List ℕ) → length free ≡ 200 → FreeTo table 200 free 0
-  unfolding free_blocks
-  free-start free l = record { long = l; fits = omega arith; listed = refl }
+  one-lower : (b : ℕ) {free : List ℕ} → FreeTo table (suc b) free → (t : Bool) → t ≡ is_free (link_at table b) → FreeTo table b (cond t (free ++ b ∷ []) free)
+  one-lower b {free} f true t = record {
+    fits = omega (arith, f.fits, length-append free (b ∷ []));
+    listed = append_assoc free (b ∷ []) (keep (λ c. is_free (link_at table c)) (numbers_down b)) ∙ (rw (← t) at f.listed);
+  }
+  one-lower b f false t = record { fits = omega (arith, f.fits); listed = rw (← t) at f.listed }
 
-  module _ (b : ℕ) {count : ℕ} {free : List ℕ} (f : FreeTo table (suc b) free count) where
-    -- block b behind the list, and counted where it is free
-    pub free-next : (t : Bool) → is_free (link_at table b) ≡ t → FreeTo table b (set free count b) (count + bool_byte t)
-    free-next true t = record {
-      long = length-set free count b ∙ f.long;
-      fits = omega (arith, f.fits);
-      listed =
-          rw (add-one count, take-suc-set free count b (omega (arith, f.fits, f.long)))
-          (append_snoc (take count free) b (keep (λ c. is_free (link_at table c)) (numbers_down b)) ∙ (rw t at f.listed));
-    }
-    free-next false t =
-        let e : count + 0 ≡ count = omega arith in
-        rw e (record {
-          long = length-set free count b ∙ f.long;
-          fits = omega (arith, f.fits);
-          listed = rw (take-set-le count free count b (omega arith)) (rw t at f.listed);
-        })
+  -- the block below b is looked at
+  pub free_next : {b below e : ℕ} {link : Link} {t : Bool} {free new : List ℕ} → FreeTo table b free → 0 < b → below ≡ b - 1 → e ≡ fat_entry table below
+      → link ≡ link_of e → t ≡ is_free link → new ≡ cond t (free ++ (b - 1) ∷ []) free → FreeTo table (b - 1) new
+  unfolding link_at
+  free_next {b = b} f h i e l t n =
+      let higher : b ≡ suc (b - 1) = omega arith in
+      rw n (one-lower (b - 1) (rw higher at f) _ (rw (t, l, e, i)))

@@ -48,9 +48,9 @@ impl<const N: usize> ByteList<N> {
     }
 
     // A byte behind the others, where the test holds. It is stored in any case, so that no step depends on a branch.
-    pub fn push_if(&mut self, kept: bool, byte: u8)
+    pub fn push_if(&mut self, byte: u8, kept: bool)
         requires { length self.old < N }
-        ensures { self.new ≡ self.old ++ cond kept (byte ∷ []) [] }
+        ensures { self.new ≡ cond kept (self.old ++ byte ∷ []) self.old }
     {
         self.bytes[self.len] = byte;
         self.len += usize::from(kept);

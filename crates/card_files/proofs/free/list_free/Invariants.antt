@@ -3,4 +3,4 @@ use Rattle.card_files.proofs.FreeLaws.{FreeTo}
 use Rattle.card_files.proofs.free.list_free.Given as goal
 
 abbrev pub invariant-loop-b : goal.invariant-loop-b
-invariant-loop-b l = FreeTo (table_of l.card) l.b l.numbers l.count
+invariant-loop-b l = FreeTo (table_of l.card) l.b l.free
