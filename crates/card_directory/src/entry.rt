@@ -1,6 +1,5 @@
 // One directory entry, read from its own 32 bytes: its fields and the tests of row 26.
-ghost use Rattle.std.specs.Prelude.{◌≡◌, ◌+◌, ◌≤◌, ◌<◌, length};
-ghost use Rattle.words.specs.Words.{same_bytes};
+ghost use Rattle.std.specs.Prelude.{◌≡◌, ◌+◌, ◌≤◌, ◌<◌};
 ghost use Rattle.card_model.specs.Layout.{card_length, entry_place, directory_of};
 ghost use Rattle.card_model.specs.Entries as model;
 
@@ -66,10 +65,11 @@ pub fn first_block(entry: &[u8; 32]) -> usize
     word(entry, 0x02)
 }
 
-pub fn has_name(entry: &[u8; 32], name: &[u8]) -> bool
-    ensures { result ≡ same_bytes (model.name_of entry.now) name.now }
+#[tactic(auto, unfolding(card_model::specs::Entries::name_of))]
+pub fn name_of(entry: &[u8; 32]) -> &[u8; 12]
+    ensures { result.now ≡ model.name_of entry.now }
 {
-    &entry[4..16] == name
+    entry[4..16].as_array().unwrap()
 }
 
 #[tactic(auto, unfolding(card_model::specs::Entries::size))]

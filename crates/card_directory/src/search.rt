@@ -5,7 +5,7 @@ ghost use Rattle.card_model.specs.Layout.{directory_of};
 ghost use Rattle.card_model.specs.Calls.{first_used, entry_named};
 ghost use Rattle.card_directory.specs.Listed.{Listed, TestsListed};
 
-use crate::entry::{entry_at, has_name};
+use crate::entry::{entry_at, name_of};
 use card_model::LENGTH;
 
 // The first number of the list that passes a test.
@@ -29,10 +29,13 @@ pub fn first_used(used: &[u8], start: usize) -> Option<usize>
     find_used(used, |i| start <= i)
 }
 
-// The entry of this name.
+// The entry of this name. Arrays are compared, since a comparison of slices is a call for each entry.
 pub fn find_named(card: &[u8; LENGTH], used: &[u8], name: &[u8]) -> Option<usize>
     requires { Listed (directory_of card.now) 208 used.now (length used.now) }
     ensures { result ≡ entry_named (directory_of card.now) name.now }
 {
-    find_used(used, |i| has_name(entry_at(card, i), name))
+    let Ok(name) = <&[u8; 12]>::try_from(name) else {
+        return None;
+    };
+    find_used(used, |i| name_of(entry_at(card, i)) == name)
 }
