@@ -12,10 +12,11 @@ use lib.ListN.{length, get_or, take, set}
 use lib.Seq.{take-set-le, take-take}
 use borrow.Author.Tests.{ne_eqb, le-ltb}
 use Rattle.words.specs.Lists.{is_some}
-use Rattle.words.specs.Search.{highest}
-use Rattle.flash_model.specs.Partition.{copy_at, holder}
+use Rattle.flash_model.specs.Measures.{capacity}
+use Rattle.flash_model.specs.Partition.{holder}
 use Rattle.flash_model.proofs.MeasureLaws.{legal-below}
-use Rattle.flash_measures.proofs.WithinLaws.{measures-known}
+use Rattle.flash_partition.specs.declared.partition.Partition.{Partition}
+use Rattle.flash_partition.proofs.UsableLaws.{usable-measured}
 use Rattle.flash_listing.specs.Passing.{PassAt, MarksAdded, ListGrown, mark_after}
 
 -- ---- the marks
@@ -35,23 +36,24 @@ added_then {image} {a} {b} {c} x y = record { each = λ n. go n (x.each n) (y.ea
     go n (inr p) (inr q) = absurd (omega (arith, p.1.0, q.0))
 
 -- a number without a mark has no contents, where no block is left
-no-holder : {marks image : List ℕ} {size end k : ℕ} → PassAt marks image size end k → k ≤ 0 → (n : ℕ) → get_or marks n 0 ≡ 0 → holder image n ≡ None
-no-holder {marks} {image} {size} {end} {k} f z n free = go (dec_le end n)
+no-holder : {marks : List ℕ} {p : Partition} → PassAt marks p 0 → (n : ℕ) → get_or marks n 0 ≡ 0 → holder p.image.now n ≡ None
+no-holder {marks} {p} f n free = go (dec_le (capacity p.log.m.size) n)
   where
-    go : Dec (end ≤ n) → holder image n ≡ None
-    go (yes h) = unfold holder in rw (f.has_measures.has_size, legal-below size n (measures-known f.has_measures), sym f.end_is, le-ltb n end h)
-    go (no h) =
-        let a : k ≡ 0 = omega arith in
-        f.unmarked n (omega (arith, h)) free ∙ ap (highest (copy_at image n)) a
+    go : Dec (capacity p.log.m.size ≤ n) → holder p.image.now n ≡ None
+    go (yes h) = unfold holder in rw (p.usable.has_size, legal-below p.log.m.size n (usable-measured p.usable), le-ltb n (capacity p.log.m.size) h)
+    go (no h) = f.unmarked n (omega (arith, h)) free
 
-pub marks-after : {marks marks' image : List ℕ} {size end k : ℕ} → MarksAdded image marks marks' → PassAt marks' image size end k → k ≤ 0
-    → (n : ℕ) → get_or marks' n 0 ≡ mark_after image marks n
+pub marks-after : {marks marks' : List ℕ} {p : Partition} → MarksAdded p.image.now marks marks' → PassAt marks' p 0
+    → (n : ℕ) → get_or marks' n 0 ≡ mark_after p.image.now marks n
 unfolding mark_after
-marks-after {marks} {marks'} {image} x f z n = go (x.each n) (ℕ_discrete (get_or marks n 0) 0)
+marks-after {marks} {marks'} {p} x f n = go (x.each n) (ℕ_discrete (get_or marks n 0) 0)
   where
+    image : List ℕ
+    image = p.image.now
+
     go : (get_or marks' n 0 ≡ get_or marks n 0) ⊎ ((get_or marks n 0 ≡ 0) × ((get_or marks' n 0 ≡ 1) × (is_some (holder image n) ≡ true))) → Dec (get_or marks n 0 ≡ 0)
         → get_or marks' n 0 ≡ cond (eqb (get_or marks n 0) 0) (cond (is_some (holder image n)) 1 0) (get_or marks n 0)
-    go (inl p) (yes e) = p ∙ e ∙ rw (e, no-holder f z n (p ∙ e))
+    go (inl q) (yes e) = q ∙ e ∙ rw (e, no-holder f n (q ∙ e))
     go (inl p) (no h) = p ∙ rw (ne_eqb (get_or marks n 0) 0 h)
     go (inr p) d = p.1.0 ∙ rw (p.0, p.1.1)
 

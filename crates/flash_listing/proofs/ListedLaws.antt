@@ -1,11 +1,10 @@
 -- The kept ones of the blocks that a pass has before it, and the list of those that it has passed. Assumes nothing.
 use Prim.Native.Nat.{ℕ, zero, suc, ◌+◌, ◌-◌, ◌≤◌, ◌<◌}
-use mathlib.Core.Path.{◌≡◌, refl, sym, ap, subst, ◌∙◌}
-use mathlib.Core.Bool.{Bool, true, false, cond, true≢false}
+use mathlib.Core.Path.{◌≡◌, refl, sym, ap, ◌∙◌}
+use mathlib.Core.Bool.{Bool, true, false, cond}
 use mathlib.Core.List.{List, [], ◌∷◌, ◌++◌, append_assoc, append-nil}
 use native.Mathlib.Omega.{arith}
 use native.Mathlib.Nat.{sub-zero}
-use native.Mathlib.Decide.{ℕ_discrete, dec_le}
 use lib.ListN.{length, set, drop, replicate, length-set, length-append, length-replicate}
 use lib.Seq.{get_or-set_same, drop-cons, drop-length, drop-set-lt}
 use Rattle.words.specs.Lists.{keep, numbers_from}
@@ -13,7 +12,10 @@ use Rattle.flash_model.specs.Measures.{capacity}
 use Rattle.flash_model.specs.UserBlock.{number}
 use Rattle.flash_model.specs.Partition.{block_at}
 use Rattle.flash_listing.specs.BlockTests.{is_new, mark, is_kept, kept_blocks}
-use Rattle.flash_listing.specs.Passing.{PassAt, StopsAt, left_and_listed, MarksAdded}
+use Rattle.flash_listing.specs.Passing.{PassAt, PassedTo, Passed, left_and_listed, MarksAdded}
+use Rattle.flash_listing.specs.declared.Progress.{Progress}
+use Rattle.flash_partition.specs.declared.partition.Partition.{Partition}
+use Rattle.flash_listing.proofs.LeftLaws.{added_none, added_then, grown-none, grown-then, grown-stored}
 use Rattle.flash_listing.proofs.MarkLaws.{passed-at, passed-kept, marked-at, marks-added, marked-kept, marked-below}
 use Rattle.flash_listing.proofs.HolderLaws.{keep_same}
 
@@ -45,19 +47,22 @@ kept-split marks marks' image (suc k) r low same e =
     go true = refl
     go false = refl
 
-module _ {marks image : List ℕ} {size end k : ℕ} (low : 1 ≤ k) (f : PassAt marks image size end k) {part : List ℕ} (p : part ≡ block_at image k) where
-  pub passed-next : is_new end part marks ≡ false → PassAt marks image size end (k - 1) × (kept_blocks marks image k ≡ kept_blocks marks image (k - 1))
-  passed-next e =
-      let here : is_new end (block_at image k) marks ≡ false = rw (sym p) e in (
-        passed-at low f here,
-        kept-split marks marks image k 0 low (λ j h. refl) (rw (passed-kept low f here)) ∙ append-nil (kept_blocks marks image (k - 1)),
-      )
+module _ {marks : List ℕ} {p : Partition} {k : ℕ} (low : 1 ≤ k) (f : PassAt marks p k) {part : List ℕ} {end : ℕ} (q : part ≡ block_at p.image.now k) (c : end ≡ capacity p.log.m.size) where
+  pub known-next : is_new end part marks ≡ false → PassedTo marks p k (k - 1)
+  known-next e =
+      let here : is_new (capacity p.log.m.size) (block_at p.image.now k) marks ≡ false = rw (sym q, sym c) e in
+      record {
+        pass_at = passed-at low f here;
+        no_higher = omega arith;
+        same_left = sym (kept-split marks marks p.image.now k 0 low (λ j h. refl) (rw (passed-kept low f here)) ∙ append-nil (kept_blocks marks p.image.now (k - 1)));
+      }
 
   pub marked_next : {marks' : List ℕ} {r : ℕ} → is_new end part marks ≡ true → r ≡ mark part → marks' ≡ set marks (number part) r
-      → PassAt marks' image size end (k - 1) × (kept_blocks marks image k ≡ kept_blocks marks' image (k - 1) ++ replicate r k) × MarksAdded image marks marks'
+      → PassAt marks' p (k - 1) × (kept_blocks marks p.image.now k ≡ kept_blocks marks' p.image.now (k - 1) ++ replicate r k) × MarksAdded p.image.now marks marks'
   marked_next e m a =
-      let here : is_new end (block_at image k) marks ≡ true = rw (sym p) e in
-      rw (a, m, p) (
+      let image = p.image.now in
+      let here : is_new (capacity p.log.m.size) (block_at image k) marks ≡ true = rw (sym q, sym c) e in
+      rw (a, m, q) (
         marked-at low f here,
         kept-split marks (set marks (number (block_at image k)) (mark (block_at image k))) image k (mark (block_at image k)) low
             (marked-below low f here) (marked-kept low f here),
@@ -91,53 +96,82 @@ module _ (marks marks' image : List ℕ) (k count r : ℕ) (split : kept_blocks 
           rw a (drop-stored kept (length kept - count - 1) k (omega arith) ∙ rw c)
       go (suc (suc r)) h = absurd (omega arith)
 
-pub none_left : (marks image : List ℕ) (k : ℕ) → k ≤ 0 → length (kept_blocks marks image k) ≡ 0
+pub none_left : (marks image : List ℕ) → length (kept_blocks marks image 0) ≡ 0
 unfolding kept_blocks
-none_left marks image k z =
-    let a : k ≡ 0 = omega arith in
-    rw a
+none_left marks image = refl
 
 module _ (marks image kept : List ℕ) where
   pub listed-first : (k : ℕ) → left_and_listed marks image k 0 kept ≡ kept_blocks marks image k
   unfolding left_and_listed
   listed-first k = rw (sub-zero, drop-length kept) (append-nil (kept_blocks marks image k))
 
-  pub listed-all : (k count : ℕ) → k ≤ 0 → left_and_listed marks image k count kept ≡ drop (length kept - count) kept
+  pub listed-all : (count : ℕ) → left_and_listed marks image 0 count kept ≡ drop (length kept - count) kept
   unfolding left_and_listed kept_blocks
-  listed-all k count z =
-      let a : k ≡ 0 = omega arith in
-      rw a
+  listed-all count = refl
 
--- a run was listed, and blocks that are not kept were passed over
-pub listed-passed : (marks image kept : List ℕ) (from to count : ℕ) {before all : List ℕ} → kept_blocks marks image to ≡ kept_blocks marks image from
-    → left_and_listed marks image from count kept ≡ before → before ≡ all → left_and_listed marks image to count kept ≡ all
-unfolding left_and_listed
-listed-passed marks image kept from to count same run all = rw same (run ∙ all)
+-- ---- the pass
 
--- ---- where a pass stops
+pub known-start : {marks : List ℕ} {p : Partition} {k : ℕ} → PassAt marks p k → PassedTo marks p k k
+known-start f = record { pass_at = f; no_higher = omega arith; same_left = refl }
 
-module _ {new : Bool} {marks image : List ℕ} {size end from k : ℕ} (f : PassAt marks image size end k) (high : k ≤ from) where
-  pub stops-here : {part : List ℕ} → part ≡ block_at image k → is_new end part marks ≡ new → StopsAt new marks image size end from k
-  stops-here p e = record { pass_at = f; no_higher = high; stops = λ _. rw (sym p) e }
+pub known-then : {marks : List ℕ} {p : Partition} {a b d : ℕ} → PassedTo marks p a b → PassedTo marks p b d → PassedTo marks p a d
+known-then x y = record { pass_at = y.pass_at; no_higher = omega (arith, x.no_higher, y.no_higher); same_left = y.same_left ∙ x.same_left }
 
-  pub stops-last : k ≤ 0 → StopsAt new marks image size end from k
-  stops-last z = record { pass_at = f; no_higher = high; stops = λ h. absurd (omega arith) }
+module _ {listed : Bool} {p : Partition} where
+  pub passed-start : (marks kept : List ℕ) (from : Progress) → PassAt marks p from.at → Passed listed p marks kept from marks kept from
+  passed-start marks kept from f = record {
+    pass_at = f;
+    no_higher = omega arith;
+    room = omega arith;
+    counted = refl;
+    added = added_none p.image.now marks;
+    same_length = refl;
+    left = λ e. refl;
+    grown = λ e. grown-none from.count kept;
+  }
 
--- the end by its name and by what it is
-pub pass-end : {marks image : List ℕ} {size end k : ℕ} → end ≡ capacity size → PassAt marks image size (capacity size) k → PassAt marks image size end k
-pass-end {marks} {image} {size} {end} {k} e f = subst (λ (n : ℕ). PassAt marks image size n k) (sym e) f
+  module _ {marks₁ kept₁ marks₂ kept₂ : List ℕ} {from to : Progress} (x : Passed listed p marks₁ kept₁ from marks₂ kept₂ to) where
+    pub passed-then : {marks₃ kept₃ : List ℕ} {end : Progress} → Passed listed p marks₂ kept₂ to marks₃ kept₃ end → Passed listed p marks₁ kept₁ from marks₃ kept₃ end
+    passed-then y = record {
+      pass_at = y.pass_at;
+      no_higher = omega (arith, x.no_higher, y.no_higher);
+      room = omega (arith, x.room, y.room);
+      counted = y.counted ∙ x.counted;
+      added = added_then x.added y.added;
+      same_length = y.same_length ∙ x.same_length;
+      left = λ e. y.left e ∙ x.left e;
+      grown = λ e. grown-then (x.grown e) (y.grown e) x.same_length;
+    }
 
-pub pass-capacity : {marks image : List ℕ} {size end k : ℕ} → PassAt marks image size end k → PassAt marks image size (capacity size) k
-pass-capacity {marks} {image} {size} {end} {k} f = subst (λ (n : ℕ). PassAt marks image size n k) f.end_is f
+    -- blocks that are not new
+    pub passed-known : {at : ℕ} → PassedTo marks₂ p to.at at → Passed listed p marks₁ kept₁ from marks₂ kept₂ (record { at = at; count = to.count })
+    unfolding left_and_listed
+    passed-known y = record {
+      pass_at = y.pass_at;
+      no_higher = omega (arith, x.no_higher, y.no_higher);
+      room = omega (arith, x.room, y.no_higher);
+      counted = omega (arith, ap length y.same_left, x.counted);
+      added = x.added;
+      same_length = x.same_length;
+      left = λ e. rw y.same_left (x.left e);
+      grown = x.grown;
+    }
 
-pub stops_end : {new : Bool} {marks image : List ℕ} {size end from at : ℕ} → StopsAt new marks image size end from at → StopsAt new marks image size (capacity size) from at
-stops_end {new} {marks} {image} {size} {end} {from} {at} s = subst (λ (n : ℕ). StopsAt new marks image size n from at) s.pass_at.end_is s
-
--- a run and what is passed over after it are at least one block
-pub stops-lower : {marks image : List ℕ} {size end from at to : ℕ} → 1 ≤ from → StopsAt false marks image size end from at → StopsAt true marks image size end at to → to < from
-stops-lower {marks} {image} {size} {end} {from} {at} {to} low run rest = go (ℕ_discrete to at) (dec_le 1 to)
-  where
-    go : Dec (to ≡ at) → Dec (1 ≤ to) → to < from
-    go (yes q) (yes h) = absurd (true≢false (sym (rest.stops h) ∙ rw q (run.stops (omega (arith, h, q)))))
-    go (yes q) (no h) = omega arith
-    go (no d) h = omega (arith, d, run.no_higher, rest.no_higher)
+    -- one that is, and is stored if blocks are listed
+    pub passed-marked : {part marks' kept' : List ℕ} {end r : ℕ} → 1 ≤ to.at → part ≡ block_at p.image.now to.at → end ≡ capacity p.log.m.size
+        → is_new end part marks₂ ≡ true → (r ≡ mark part) × (r ≤ 1) → marks' ≡ set marks₂ (number part) r
+        → from.count + from.at ≤ capacity p.log.m.size → (listed ≡ true → capacity p.log.m.size ≤ length kept₁)
+        → (listed ≡ true → kept' ≡ set kept₂ (length kept₂ - to.count - 1) to.at) → length kept' ≡ length kept₂
+        → Passed listed p marks₁ kept₁ from marks' kept' (record { at = to.at - 1; count = to.count + r })
+    passed-marked {part} {marks'} {kept'} {end} {r} low q c e m a few fits stored long =
+        let s = marked_next low x.pass_at q c e m.0 a in
+        record {
+          pass_at = s.0;
+          no_higher = omega (arith, x.no_higher);
+          room = omega (arith, m.1, x.room, low);
+          counted = marked-counted marks₂ marks' p.image.now to.at to.count r s.1 ∙ x.counted;
+          added = added_then x.added s.2;
+          same_length = long ∙ x.same_length;
+          left = λ l. rw (stored l) (marked-listed marks₂ marks' p.image.now to.at to.count r s.1 kept₂ low (omega (arith, x.room, few, fits l, x.same_length)) m.1 ∙ x.left l);
+          grown = λ l. rw (stored l) (grown-then (x.grown l) (grown-stored to.count r to.at kept₂) x.same_length);
+        }

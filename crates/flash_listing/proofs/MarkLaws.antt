@@ -6,6 +6,7 @@ use mathlib.Core.List.{List}
 use Rattle.std.specs.Prelude.{Some}
 use mathlib.Core.Logic.{◌⊎◌, inl, inr}
 use native.Mathlib.Omega.{arith}
+use Rattle.std.specs.Int.{from_bool}
 use native.Mathlib.Decide.{ℕ_discrete}
 use lib.Dec.{eqb, ltb}
 use lib.ListN.{length, get_or, set, length-set}
@@ -19,14 +20,13 @@ use Rattle.flash_model.specs.Measures.{capacity}
 use Rattle.flash_model.specs.UserBlock.{number, right_checksum}
 use Rattle.flash_model.specs.Partition.{block_at, copy_at, holder}
 use Rattle.flash_model.specs.Update.{is_at, is_holder}
-use Rattle.flash_model.proofs.MeasureLaws.{legal-below, measures-of}
-use Rattle.flash_partition.specs.Usable.{Usable}
-use Rattle.flash_partition.specs.declared.partition.OpenedLog.{OpenedLog}
-use Rattle.flash_partition.proofs.UsableLaws.{usable-has, usable-measured, count_most, holder-some}
+use Rattle.flash_model.proofs.MeasureLaws.{legal-below}
+use Rattle.flash_partition.specs.declared.partition.Partition.{Partition}
+use Rattle.flash_partition.proofs.UsableLaws.{usable-measured, count_most, holder-some}
 use Rattle.flash_listing.specs.BlockTests.{is_new, mark, is_kept}
 use Rattle.flash_listing.specs.Passing.{PassAt, MarksAdded}
 
-pub mark-is : (block : List ℕ) (t : Bool) (r : ℕ) → right_checksum block ≡ t → r ≡ cond t 1 0 → (r ≡ mark block) × (r ≤ 1)
+pub mark-is : (block : List ℕ) (t : Bool) (r : ℕ) → right_checksum block ≡ t → r ≡ from_bool t → (r ≡ mark block) × (r ≤ 1)
 unfolding mark
 mark-is block true r q e = (e ∙ rw q, omega (arith, e))
 mark-is block false r q e = (e ∙ rw q, omega (arith, e))
@@ -43,14 +43,11 @@ new-free end block marks e = eqb-true (get_or marks (number block) 0) 0 (and-tru
 
 -- ---- the pass
 
-pub pass-first : {image : List ℕ} {log : OpenedLog} (marks : List ℕ) (end : ℕ) → Usable image log → end ≡ capacity log.m.size → end ≤ length marks
-    → PassAt marks image log.m.size end log.used
-pass-first {image} {log} marks end u c long = record {
-  has_measures = usable-has u;
-  end_is = c;
+pub pass-first : (marks : List ℕ) (p : Partition) → capacity p.log.m.size ≤ length marks → PassAt marks p p.log.used
+pass-first marks p long = record {
   long = long;
-  not_past_end = omega (arith, c, count_most u);
-  unmarked = λ n h z. holder-some u n (legal-below log.m.size n (usable-measured u) ∙ lt-ltb n (capacity log.m.size) (omega (arith, h, c)));
+  not_past_end = count_most p.usable;
+  unmarked = λ n h z. holder-some p.usable n (legal-below p.log.m.size n (usable-measured p.usable) ∙ lt-ltb n (capacity p.log.m.size) h);
 }
 
 not-above : (p : ℕ → Bool) (i k : ℕ) → i < k → is_at (highest p i) k ≡ false
@@ -62,12 +59,18 @@ not-above p (suc i) k h = go (not-above p i k (omega arith)) (p (suc i))
     go ih false = ih
 
 -- a number that is past the top has no contents
-not-holder : {marks image : List ℕ} {size end k : ℕ} → PassAt marks image size end k → ltb (number (block_at image k)) end ≡ false → is_holder image k ≡ false
+not-holder : (p : Partition) (k : ℕ) → ltb (number (block_at p.image.now k)) (capacity p.log.m.size) ≡ false → is_holder p.image.now k ≡ false
 unfolding is_holder holder
-not-holder {marks} {image} {size} {end} {k} f t =
-    rw (f.has_measures.has_size, legal-below size (number (block_at image k)) (measures-of size f.has_measures.is_legal), sym f.end_is, t)
+not-holder p k t =
+    rw (p.usable.has_size, legal-below p.log.m.size (number (block_at p.image.now k)) (usable-measured p.usable), t)
 
-module _ {marks image : List ℕ} {size end k : ℕ} (low : 1 ≤ k) (f : PassAt marks image size end k) where
+module _ {marks : List ℕ} {p : Partition} {k : ℕ} (low : 1 ≤ k) (f : PassAt marks p k) where
+  abbrev image : List ℕ
+  image = p.image.now
+
+  abbrev end : ℕ
+  end = capacity p.log.m.size
+
   abbrev b : ℕ
   b = number (block_at image k)
 
@@ -77,19 +80,17 @@ module _ {marks image : List ℕ} {size end k : ℕ} (low : 1 ≤ k) (f : PassAt
   -- ---- a block that is not new
 
   -- no number without a mark has the block
-  passed : ((n : ℕ) → n < end → get_or marks n 0 ≡ 0 → copy_at image n k ≡ false) → PassAt marks image size end (k - 1)
+  passed : ((n : ℕ) → n < end → get_or marks n 0 ≡ 0 → copy_at image n k ≡ false) → PassAt marks p (k - 1)
   passed none-new = record {
-    has_measures = f.has_measures;
-    end_is = f.end_is;
     long = f.long;
     not_past_end = omega (arith, f.not_past_end);
     unmarked = λ n h z. f.unmarked n h z ∙ held_next n (none-new n h z);
   }
 
-  pub passed-wrong : right_checksum (block_at image k) ≡ false → PassAt marks image size end (k - 1)
+  pub passed-wrong : right_checksum (block_at image k) ≡ false → PassAt marks p (k - 1)
   passed-wrong wrong = passed (λ n h z. rw wrong (and-false (eqb b n)))
 
-  pub passed-at : is_new end (block_at image k) marks ≡ false → PassAt marks image size end (k - 1)
+  pub passed-at : is_new end (block_at image k) marks ≡ false → PassAt marks p (k - 1)
   unfolding is_new
   passed-at e = passed (λ n h free. rw (ne_eqb b n (λ q. true≢false (sym (new n h free q) ∙ e))))
     where
@@ -101,7 +102,7 @@ module _ {marks image : List ℕ} {size end k : ℕ} (low : 1 ≤ k) (f : PassAt
   passed-kept e = go (ltb b end) refl e
     where
       go : (t : Bool) → ltb b end ≡ t → (t && eqb (get_or marks b 0) 0) ≡ false → (is_holder image k && eqb (get_or marks b 0) 0) ≡ false
-      go false t e = rw (not-holder f t)
+      go false t e = rw (not-holder p k t)
       go true t e = rw e (and-false (is_holder image k))
 
   -- ---- a block that is new
@@ -122,10 +123,8 @@ module _ {marks image : List ℕ} {size end k : ℕ} (low : 1 ≤ k) (f : PassAt
     same-marks wrong = rw wrong (sym (ap (set marks b) (sym free) ∙ set-get_or marks b 0))
 
     -- any mark but 0
-    pub stored : (v : ℕ) → 1 ≤ v → right_checksum (block_at image k) ≡ true → PassAt (set marks b v) image size end (k - 1)
+    pub stored : (v : ℕ) → 1 ≤ v → right_checksum (block_at image k) ≡ true → PassAt (set marks b v) p (k - 1)
     stored v some-mark right = record {
-      has_measures = f.has_measures;
-      end_is = f.end_is;
       long = omega (arith, f.long, length-set marks b v);
       not_past_end = omega (arith, f.not_past_end);
       unmarked = λ n h z. f.unmarked n h (free-before n z) ∙ held_next n (rw (ne_eqb b n (λ q. marked n (sym q) z)));
@@ -137,13 +136,13 @@ module _ {marks image : List ℕ} {size end k : ℕ} (low : 1 ≤ k) (f : PassAt
         free-before : (n : ℕ) → get_or (set marks b v) n 0 ≡ 0 → get_or marks n 0 ≡ 0
         free-before n z = sym (get_or-set_other marks b n v 0 (λ q. marked n q z)) ∙ z
 
-    pub marked-at : PassAt (set marks b (mark (block_at image k))) image size end (k - 1)
+    pub marked-at : PassAt (set marks b (mark (block_at image k))) p (k - 1)
     unfolding mark
     marked-at = go (right_checksum (block_at image k)) refl
       where
-        go : (t : Bool) → right_checksum (block_at image k) ≡ t → PassAt (set marks b (mark (block_at image k))) image size end (k - 1)
+        go : (t : Bool) → right_checksum (block_at image k) ≡ t → PassAt (set marks b (mark (block_at image k))) p (k - 1)
         go true right = rw right (stored 1 (omega arith) right)
-        go false wrong = subst (λ (a : List ℕ). PassAt a image size end (k - 1)) (same-marks wrong) (passed-wrong wrong)
+        go false wrong = subst (λ (a : List ℕ). PassAt a p (k - 1)) (same-marks wrong) (passed-wrong wrong)
 
     pub marks-added : MarksAdded image marks (set marks b (mark (block_at image k)))
     unfolding mark

@@ -1,9 +1,9 @@
 -- The places of numbers as used blocks are passed, the highest first. A place is a mark: 0 where there is none. Assumes nothing.
-use Prim.Native.Nat.{ℕ, zero, suc, ◌-◌, ◌≤◌, ◌<◌}
+use Prim.Native.Nat.{ℕ, ◌-◌, ◌≤◌, ◌<◌}
 use mathlib.Core.Path.{◌≡◌, refl, sym, ap, ◌∙◌}
 use mathlib.Core.Bool.{Bool, true, false, cond, ◌&&◌, and-false}
 use mathlib.Core.List.{List, ◌++◌}
-use Rattle.std.specs.Prelude.{None, Some}
+use Rattle.std.specs.Prelude.{Some}
 use mathlib.Core.Logic.{◌≢◌}
 use native.Mathlib.Omega.{arith}
 use native.Mathlib.Decide.{ℕ_discrete}
@@ -11,9 +11,10 @@ use lib.Dec.{ltb}
 use lib.ListN.{length, get_or, take, drop, set, replicate, length-set, length-append, length-drop, length-replicate, get_or-replicate, get_or-append}
 use lib.Seq.{get_or-set_same, get_or-set_other, drop-set-lt, drop_at, length-take-le}
 use borrow.Author.Tests.{ne_eqb, le-ltb, lt-ltb}
-use Rattle.words.specs.Search.{highest}
+use Rattle.flash_model.specs.Measures.{capacity}
+use Rattle.flash_partition.specs.declared.partition.Partition.{Partition}
 use Rattle.flash_model.specs.UserBlock.{number, right_checksum}
-use Rattle.flash_model.specs.Partition.{block_at, copy_at, holder}
+use Rattle.flash_model.specs.Partition.{block_at, holder}
 use Rattle.flash_listing.specs.BlockTests.{is_new}
 use Rattle.flash_listing.specs.Passing.{PassAt}
 use Rattle.flash_listing.specs.NumberPlaces.{place_of, entered, PlacesOf}
@@ -50,8 +51,8 @@ pub record Placed (image : List ℕ) (end : ℕ) (cleared places : List ℕ) : T
 abbrev pub Cleared : ℕ → List ℕ → List ℕ → Type 0
 Cleared end places₀ cleared = cleared ≡ replicate end 0 ++ drop end places₀
 
-pub filled_front : {front : List ℕ} (end : ℕ) (places₀ : List ℕ) → end ≤ length places₀ → front ≡ replicate (length (take end places₀)) 0 → Cleared end places₀ (front ++ drop end places₀)
-filled_front end places₀ h e = rw (e, length-take-le end places₀ h)
+pub filled_front : {front : List ℕ} {n end : ℕ} (places₀ : List ℕ) → n ≡ end → end ≤ length places₀ → front ≡ replicate (length (take n places₀)) 0 → Cleared end places₀ (front ++ drop n places₀)
+filled_front {front} {n} {end} places₀ c h e = rw (e, c, length-take-le end places₀ h)
 
 pub none-placed : (image : List ℕ) (end : ℕ) (places₀ cleared : List ℕ) → Cleared end places₀ cleared → Placed image end cleared cleared
 none-placed image end places₀ cleared e = record {
@@ -64,9 +65,15 @@ pub cleared-length : (end : ℕ) (places₀ cleared : List ℕ) → end ≤ leng
 cleared-length end places₀ cleared h e =
     ap length e ∙ length-append (replicate end 0) (drop end places₀) ∙ omega (arith, length-replicate {A = ℕ} end 0, length-drop end places₀, h)
 
-module _ {image cleared places : List ℕ} {size end k : ℕ} (low : 1 ≤ k) (f : PassAt places image size end k) (p : Placed image end cleared places) where
+module _ {cleared places : List ℕ} {partition : Partition} {k : ℕ} (low : 1 ≤ k) (f : PassAt places partition k) (p : Placed partition.image.now (capacity partition.log.m.size) cleared places) where
+  abbrev image : List ℕ
+  image = partition.image.now
+
+  abbrev end : ℕ
+  end = capacity partition.log.m.size
+
   abbrev Both : List ℕ → Type 0
-  Both x = PassAt x image size end (k - 1) × Placed image end cleared x
+  Both x = PassAt x partition (k - 1) × Placed image end cleared x
 
   abbrev b : ℕ
   b = number (block_at image k)
@@ -98,18 +105,20 @@ module _ {image cleared places : List ℕ} {size end k : ℕ} (low : 1 ≤ k) (f
               p.right n l (λ z. d (o ∙ z)) ∙ ap (λ (x : ℕ). Some x) (sym o)
 
 -- all blocks are passed
-pub all_placed : {image cleared places : List ℕ} {size end k : ℕ} (places₀ : List ℕ) → end ≤ length places₀ → Cleared end places₀ cleared
-    → k ≤ 0 → PassAt places image size end k → Placed image end cleared places → PlacesOf image end places₀ places
-all_placed {image} {cleared} {places} {size} {end} {k} places₀ h e done f p = record {
+pub all_placed : {cleared places : List ℕ} {partition : Partition} (places₀ : List ℕ) → capacity partition.log.m.size ≤ length places₀ → Cleared (capacity partition.log.m.size) places₀ cleared
+    → PassAt places partition 0 → Placed partition.image.now (capacity partition.log.m.size) cleared places → PlacesOf partition.image.now (capacity partition.log.m.size) places₀ places
+all_placed {cleared} {places} {partition} places₀ h e f p = record {
   each = λ n l. each n l (ℕ_discrete (get_or places n 0) 0);
   further = p.others ∙ ap (drop end) e ∙ drop_at (replicate end 0) (drop end places₀) end (length-replicate {A = ℕ} end 0);
   same_length = p.as_long ∙ cleared-length end places₀ cleared h e;
 }
   where
-    nothing : (n k : ℕ) → k ≤ 0 → highest (copy_at image n) k ≡ None
-    nothing n zero d = refl
-    nothing n (suc k) d = absurd (omega (arith, d))
+    image : List ℕ
+    image = partition.image.now
+
+    end : ℕ
+    end = capacity partition.log.m.size
 
     each : (n : ℕ) → n < end → Dec (get_or places n 0 ≡ 0) → get_or places n 0 ≡ place_of (holder image n)
-    each n l (yes z) = z ∙ ap place_of (sym (f.unmarked n l z ∙ nothing n k done))
+    each n l (yes z) = z ∙ ap place_of (sym (f.unmarked n l z))
     each n l (no d) = ap place_of (sym (p.right n l d))

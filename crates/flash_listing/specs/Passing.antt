@@ -1,26 +1,30 @@
 -- A pass over the used blocks, from the highest down, with marks of numbers.
 -- Assumes nothing.
-use Rattle.std.specs.Prelude.{ℕ, ◌-◌, ◌≤◌, ◌<◌, ◌≡◌, Bool, true, cond, List, ◌++◌, ◌⊎◌, eqb, length, get_or, take, drop}
+use Rattle.std.specs.Prelude.{ℕ, ◌+◌, ◌-◌, ◌≤◌, ◌<◌, ◌≡◌, Bool, true, cond, List, ◌++◌, ◌⊎◌, eqb, length, get_or, take, drop}
 use Rattle.words.specs.Lists.{is_some}
 use Rattle.words.specs.Search.{highest}
 use Rattle.flash_model.specs.Measures.{capacity}
-use Rattle.flash_model.specs.Partition.{block_at, copy_at, holder}
-use Rattle.flash_measures.specs.HasMeasures.{HasMeasures}
-use Rattle.flash_listing.specs.BlockTests.{is_new, kept_blocks}
+use Rattle.flash_model.specs.Partition.{copy_at, holder}
+use Rattle.flash_partition.specs.declared.partition.Partition.{Partition}
+use Rattle.flash_listing.specs.BlockTests.{kept_blocks}
+use Rattle.flash_listing.specs.declared.Progress.{Progress}
 
 -- The pass is at block k, and those above are passed: what holds the contents of a number that has no mark is k or below it.
-pub record PassAt (marks image : List ℕ) (size end k : ℕ) : Type 0 where
-  pub has_measures : HasMeasures image size
-  pub end_is : end ≡ capacity size
-  pub long : end ≤ length marks
-  pub not_past_end : k ≤ end
-  pub unmarked : (n : ℕ) → n < end → get_or marks n 0 ≡ 0 → holder image n ≡ highest (copy_at image n) k
+pub record PassAt (marks : List ℕ) (p : Partition) (k : ℕ) : Type 0 where
+  pub long : capacity p.log.m.size ≤ length marks
+  pub not_past_end : k ≤ capacity p.log.m.size
+  pub unmarked : (n : ℕ) → n < capacity p.log.m.size → get_or marks n 0 ≡ 0 → holder p.image.now n ≡ highest (copy_at p.image.now n) k
 
--- The pass went down from one block and stopped at another, which is new or is not, or where none was left.
-pub record StopsAt (new : Bool) (marks image : List ℕ) (size end from at : ℕ) : Type 0 where
-  pub pass_at : PassAt marks image size end at
+-- The pass went down from one block to another, and none of those that it passed is kept.
+pub record PassedTo (marks : List ℕ) (p : Partition) (from at : ℕ) : Type 0 where
+  pub pass_at : PassAt marks p at
   pub no_higher : at ≤ from
-  pub stops : 1 ≤ at → is_new end (block_at image at) marks ≡ new
+  pub same_left : kept_blocks marks p.image.now at ≡ kept_blocks marks p.image.now from
+
+-- It stopped at a block, which may be kept.
+pub record NextNew (marks : List ℕ) (p : Partition) (from at : ℕ) : Type 0 where
+  pub is_block : 0 < at
+  pub passed : PassedTo marks p from at
 
 -- The blocks that are still to be listed, then the list, which is the end of `kept`.
 unfoldable pub left_and_listed : List ℕ → List ℕ → ℕ → ℕ → List ℕ → List ℕ
@@ -37,6 +41,25 @@ pub record MarksAdded (image marks marks' : List ℕ) : Type 0 where
 pub record ListGrown (from to : ℕ) (kept kept' : List ℕ) : Type 0 where
   pub no_fewer : from ≤ to
   pub same_front : take (length kept - to - 1) kept' ≡ take (length kept - to - 1) kept
+
+-- Blocks are passed, and the numbers marked are counted. Where their blocks are listed, these and the blocks that are still to be
+-- listed are the same as before.
+pub record Passed (listed : Bool) (p : Partition) (marks kept : List ℕ) (from : Progress) (marks' kept' : List ℕ) (to : Progress) : Type 0 where
+  pub pass_at : PassAt marks' p to.at
+  pub no_higher : to.at ≤ from.at
+  pub room : to.count + to.at ≤ from.count + from.at
+  pub counted : to.count + length (kept_blocks marks' p.image.now to.at) ≡ from.count + length (kept_blocks marks p.image.now from.at)
+  pub added : MarksAdded p.image.now marks marks'
+  pub same_length : length kept' ≡ length kept
+  pub left : listed ≡ true → left_and_listed marks' p.image.now to.at to.count kept' ≡ left_and_listed marks p.image.now from.at from.count kept
+  pub grown : listed ≡ true → ListGrown from.count to.count kept kept'
+
+-- A pass over all used blocks: where it begins and where it ends.
+abbrev pub whole : Partition → Progress
+whole p = record { at = p.log.used; count = 0 }
+
+abbrev pub passed : ℕ → Progress
+passed count = record { at = 0; count = count }
 
 -- A number's mark when all blocks are passed: the one that it had, else 1 if it has contents.
 unfoldable pub mark_after : List ℕ → List ℕ → ℕ → ℕ

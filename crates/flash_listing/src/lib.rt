@@ -3,12 +3,12 @@
 // One pass over the used blocks for whatever looks at all numbers.
 pub mod places;
 
-ghost use Rattle.std.specs.Prelude.{◌≡◌, true, false, ◌+◌, ◌≤◌, ◌<◌, length, set};
+ghost use Rattle.std.specs.Prelude.{◌≡◌, true, ◌+◌, ◌≤◌, ◌<◌, length, set, MatchOption};
 ghost use Rattle.flash_model.specs.Measures.{capacity};
 ghost use Rattle.flash_model.specs.UserBlock.{number};
 ghost use Rattle.flash_model.specs.Partition.{live, lowest_live};
-ghost use Rattle.flash_listing.specs.BlockTests.{is_new, mark, kept_blocks, lowered};
-ghost use Rattle.flash_listing.specs.Passing.{PassAt, StopsAt, left_and_listed, MarksAdded, ListGrown, AllListed};
+ghost use Rattle.flash_listing.specs.BlockTests.{is_new, mark, lowered};
+ghost use Rattle.flash_listing.specs.Passing.{PassAt, PassedTo, NextNew, Passed, whole, passed, AllListed};
 
 use flash_measures::NUMBERS;
 use flash_partition::blocks::right_checksum;
@@ -22,10 +22,7 @@ fn is_new(part: &[u8; 64], end: usize, marks: &[u8]) -> bool
     ensures { result ≡ is_new end part.now marks.now }
 {
     let number = word(part, 0);
-    if end <= number {
-        return false;
-    }
-    marks[number] == 0
+    number < end && marks[number] == 0
 }
 
 // Marks the number of the block that the part is, which has no mark, if the checksum is right. The mark, 1 or 0, is stored in
@@ -35,9 +32,23 @@ fn mark_number(part: &[u8; 64], marks: &mut [u8]) -> usize
     ensures value { (result ≡ mark part.now) × (result ≤ 1) }
     ensures marks_after { marks.new ≡ set marks.old (number part.now) result }
 {
-    let mark: u8 = if right_checksum(part) { 1 } else { 0 };
+    let mark = u8::from(right_checksum(part));
     marks[word(part, 0)] = mark;
-    mark as usize
+    usize::from(mark)
+}
+
+// The highest block not above `from` that is new: those above it are passed.
+fn next_new(p: Partition<'_>, marks: &[u8], from: usize) -> Option<usize>
+    requires { PassAt marks.now p from }
+    ensures { MatchOption result (PassedTo marks.now p.entry from 0) (NextNew marks.now p.entry from) }
+{
+    let end = p.log.m.capacity();
+    for k in (1..from + 1).rev() {
+        if is_new(p.block(k), end, marks) {
+            return Some(k);
+        }
+    }
+    None
 }
 
 // Where a pass stands: the blocks up to `at` are still to come, and `count` numbers were marked.
@@ -47,83 +58,59 @@ struct Progress {
     count: usize,
 }
 
-// Marks the numbers of blocks from `from` downwards as long as they are new, and counts them.
-fn count_run(p: Partition<'_>, end: usize, marks: &mut [u8], from: usize) -> Progress
-    requires { PassAt marks.old p.image.now p.log.m.size end from }
-    ensures stops_at { StopsAt false marks.new p.entry.image.now p.entry.log.m.size end from result.at }
-    ensures at_bound { result.count + result.at ≤ from }
-    ensures at_after { result.count + length (kept_blocks marks.new p.entry.image.now result.at) ≡ length (kept_blocks marks.old p.entry.image.now from) }
+// Marks the numbers of blocks downwards as long as they are new, and counts them. Where the blocks are listed, each is stored in front
+// of the list, which begins with it if its number is marked: the store comes behind the checksum; in front of it the pass took longer.
+fn mark_run<const LISTED: bool>(
+    p: Partition<'_>,
+    marks: &mut [u8],
+    kept: &mut [u16],
+    reached: Progress,
+) -> Progress
+    requires pass_at { (0 < reached.at) × PassAt marks.old p reached.at }
+    requires bound { reached.count + reached.at ≤ p.log.used }
+    requires room { LISTED ≡ true → capacity p.log.m.size ≤ length kept.old }
+    ensures lower { result.at < reached.at }
+    ensures passed { Passed LISTED p.entry marks.old kept.old reached marks.new kept.new result }
 {
-    let mut count: usize = 0;
-    let mut k = from;
-    while 0 < k {
+    let end = p.log.m.capacity();
+    let mut count = reached.count;
+    for k in (1..reached.at + 1).rev() {
         let part = p.block(k);
         if !is_new(part, end, &marks[..]) {
-            return Progress { at: k, count };
+            return Progress { at: k - 1, count };
         }
-        count += mark_number(part, marks);
-        k -= 1;
+        let marked = mark_number(part, marks);
+        if LISTED {
+            kept[kept.len() - count - 1] = k as u16;
+        }
+        count += marked;
     }
     Progress { at: 0, count }
 }
 
-// Passes over blocks from `from` downwards as long as they are not new.
-fn pass_known(p: Partition<'_>, end: usize, marks: &[u8], from: usize) -> usize
-    requires { PassAt marks.now p.image.now p.log.m.size end from }
-    ensures stops_at { StopsAt true marks.now p.entry.image.now p.entry.log.m.size end from result }
-    ensures result_value { kept_blocks marks.now p.entry.image.now result ≡ kept_blocks marks.now p.entry.image.now from }
+// Passes all used blocks by such runs, and answers how many numbers were marked. Blocks go in falling order, so the first of a number
+// that has a right checksum is the one, and no checksum is worked for an older copy.
+fn pass<const LISTED: bool>(p: Partition<'_>, marks: &mut [u8], kept: &mut [u16]) -> usize
+    requires long { capacity p.log.m.size ≤ length marks.old }
+    requires room { LISTED ≡ true → capacity p.log.m.size ≤ length kept.old }
+    ensures { Passed LISTED p.entry marks.old kept.old (whole p.entry) marks.new kept.new (passed result) }
 {
-    let mut k = from;
-    while 0 < k {
-        if is_new(p.block(k), end, marks) {
-            return k;
-        }
-        k -= 1;
+    let mut reached = Progress {
+        at: p.log.used,
+        count: 0,
+    };
+    while let Some(at) = next_new(p, &marks[..], reached.at) {
+        reached = mark_run::<LISTED>(p, marks, kept, Progress { at, ..reached });
     }
-    0
+    reached.count
 }
 
-// How many numbers have contents. Blocks go in falling order, so the first of a number that has a right checksum is the one, and
-// no checksum is worked for an older copy.
+// How many numbers have contents.
 pub fn count_live(p: Partition<'_>) -> usize
     ensures { result ≡ live p.entry.image.now }
 {
     let mut marks = [0u8; NUMBERS];
-    let end = p.log.m.capacity();
-    let mut count: usize = 0;
-    let mut k = p.log.used;
-    while 0 < k {
-        let run = count_run(p, end, &mut marks, k);
-        count += run.count;
-        k = pass_known(p, end, &marks, run.at);
-    }
-    count
-}
-
-// Marks the numbers of a run of blocks as `count_run` does, and lists the blocks: each new block is stored in front of the list,
-// which begins with it where its number is marked. The store comes behind the checksum; in front of it the pass took longer.
-fn list_run(p: Partition<'_>, marks: &mut [u8], kept: &mut [u16], reached: Progress) -> Progress
-    requires pass_at { PassAt marks.old p.image.now p.log.m.size (capacity p.log.m.size) reached.at }
-    requires at_in_bounds { reached.count + reached.at ≤ length kept.old }
-    ensures stops_at { StopsAt false marks.new p.entry.image.now p.entry.log.m.size (capacity p.entry.log.m.size) reached.at result.at }
-    ensures at_bound { result.count + result.at ≤ reached.count + reached.at }
-    ensures kept_after { left_and_listed marks.new p.entry.image.now result.at result.count kept.new ≡ left_and_listed marks.old p.entry.image.now reached.at reached.count kept.old }
-    ensures marks_added { MarksAdded p.entry.image.now marks.old marks.new × ListGrown reached.count result.count kept.old kept.new }
-{
-    let end = p.log.m.capacity();
-    let mut count = reached.count;
-    let mut k = reached.at;
-    while 0 < k {
-        let part = p.block(k);
-        if !is_new(part, end, &marks[..]) {
-            return Progress { at: k, count };
-        }
-        let marked = mark_number(part, marks);
-        kept[kept.len() - count - 1] = k as u16;
-        count += marked;
-        k -= 1;
-    }
-    Progress { at: 0, count }
+    pass::<false>(p, &mut marks, &mut [])
 }
 
 // Lists at the end of `kept`, rising, the physical block of the contents of each number that has no mark, and counts
@@ -132,15 +119,7 @@ pub fn list_kept(p: Partition<'_>, marks: &mut [u8], kept: &mut [u16]) -> usize
     requires { (capacity p.log.m.size ≤ length marks.old) × (capacity p.log.m.size ≤ length kept.old) }
     ensures { AllListed p.entry.image.now marks.old kept.old p.entry.log.used marks.new kept.new result }
 {
-    let end = p.log.m.capacity();
-    let mut count: usize = 0;
-    let mut k = p.log.used;
-    while 0 < k {
-        let run = list_run(p, marks, kept, Progress { at: k, count });
-        count = run.count;
-        k = pass_known(p, end, &marks[..], run.at);
-    }
-    count
+    pass::<true>(p, marks, kept)
 }
 
 // The lower of `best` and the number of the block that this part is, if that is not below the start and the checksum is

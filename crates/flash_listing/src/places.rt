@@ -14,13 +14,7 @@ fn enter(part: &[u8; 64], k: usize, end: usize, places: &mut [u16])
     ensures { places.new ≡ entered end part.now k places.old }
 {
     let number = word(part, 0);
-    if end <= number {
-        return;
-    }
-    if places[number] != 0 {
-        return;
-    }
-    if right_checksum(part) {
+    if number < end && places[number] == 0 && right_checksum(part) {
         places[number] = k as u16;
     }
 }
@@ -33,9 +27,7 @@ pub fn find_places(p: Partition<'_>, places: &mut [u16])
 {
     let end = p.log.m.capacity();
     places[..end].fill(0);
-    let mut k = p.log.used;
-    while 0 < k {
+    for k in (1..p.log.used + 1).rev() {
         enter(p.block(k), k, end, places);
-        k -= 1;
     }
 }

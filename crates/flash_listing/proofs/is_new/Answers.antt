@@ -1,17 +1,13 @@
-use mathlib.Core.Path.{sym}
+use Rattle.std.proofs.Common.{sym}
 use borrow.Author.Tests.{lt-ltb, le-ltb}
 use Rattle.flash_listing.specs.BlockTests.{is_new}
 use Rattle.flash_partition.proofs.PartLaws.{number_is}
 use Rattle.flash_listing.proofs.is_new.Goals as goal
 
-pub returns-then-end-number : goal.returns-then-end-number
+pub returns-then-number-end : goal.returns-then-number-end
 unfolding is_new
-returns-then-end-number c =
-    let s = c.args in
-    rw (number_is s.part.now, sym c.word-number.ensures.0, le-ltb _ _ c.if-end-number.true)
+returns-then-number-end c = rw (number_is c.args.part.now, sym c.word-number.ensures.0, lt-ltb _ _ c.if-number-end.true)
 
-pub returns : goal.returns
+pub returns-else-number-end : goal.returns-else-number-end
 unfolding is_new
-returns c =
-    let s = c.args in
-    rw (number_is s.part.now, sym c.word-number.ensures.0, lt-ltb _ _ c.if-end-number.false)
+returns-else-number-end c = rw (number_is c.args.part.now, sym c.word-number.ensures.0, le-ltb _ _ c.if-number-end.false)

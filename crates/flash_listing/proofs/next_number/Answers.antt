@@ -1,6 +1,6 @@
 use Prim.Native.Nat.{◌+◌}
 use native.Mathlib.Omega.{arith}
-use Rattle.flash_partition.proofs.UsableLaws.{usable-legal, usable-has, usable-measured, count_most}
+use Rattle.flash_partition.proofs.UsableLaws.{usable-measured, count_most}
 use Rattle.flash_listing.proofs.NextLaws.{BestSoFar, best-next, next_past, next_start, next_is, next-none}
 use Rattle.flash_listing.proofs.next_number.Goals as goal
 

@@ -1,31 +1,20 @@
-use Prim.Native.Nat.{◌≤◌, ◌<◌}
-use mathlib.Core.Path.{◌≡◌, sym, subst, ◌∙◌}
-use native.Mathlib.Omega.{arith}
-use lib.ListN.{get_or}
+use Rattle.std.proofs.Common.{◌≡◌, sym, ◌∙◌, arith}
 use Rattle.flash_model.specs.UserBlock.{number}
 use Rattle.flash_partition.proofs.PartLaws.{number_is}
 use Rattle.flash_listing.proofs.PlaceLaws.{not_below, has-place, not_right, is-entered}
 use Rattle.flash_listing.proofs.places.enter.Goals as goal
-
-pub returns-then-end-number : goal.returns-then-end-number
-returns-then-end-number c =
-    let number_read : number c.args.part.now ≡ c.word-number.result = number_is c.args.part.now ∙ sym c.word-number.ensures.0 in
-    let h : c.args.end ≤ number c.args.part.now = omega (arith, number_read, c.if-end-number.true) in
-    not_below c.args.end c.args.part.now c.args.k c.args.places.now h
-
-pub returns-then-places-number-ne0 : goal.returns-then-places-number-ne0
-returns-then-places-number-ne0 c =
-    let number_read : number c.args.part.now ≡ c.word-number.result = number_is c.args.part.now ∙ sym c.word-number.ensures.0 in
-    has-place c.args.end c.args.part.now c.args.k c.args.places.now
-    (λ z. c.if-places-number-ne0.true (subst (λ n. get_or c.args.places.now n 0 ≡ 0) number_read z))
+use Rattle.flash_listing.proofs.places.enter.Goals.{else-number-end-via-then-number-end+then-places-number-eq0+else-right_checksum, else-number-end-via-then-number-end+else-places-number-eq0, else-number-end-via-else-number-end}
 
 pub returns-then-right_checksum : goal.returns-then-right_checksum
 returns-then-right_checksum c =
-    let number_read : number c.args.part.now ≡ c.word-number.result = number_is c.args.part.now ∙ sym c.word-number.ensures.0 in
-    let h : number c.args.part.now < c.args.end = omega (arith, number_read, c.if-end-number.false) in
-    rw (sym number_read)
-    (is-entered c.args.end c.args.part.now c.args.k c.args.places.now h
-    (subst (λ n. get_or c.args.places.now n 0 ≡ 0) (sym number_read) c.if-places-number-ne0.false) (sym c.right_checksum.ensures ∙ c.if-right_checksum.true))
+    let read : c.word-number.result ≡ number c.args.part.now = c.word-number.ensures.0 ∙ sym (number_is c.args.part.now) in
+    rw read (is-entered c.args.end c.args.part.now c.args.k c.args.places.now (omega (arith, read, c.if-number-end.true)) (rw read at c.if-places-number-eq0.true) (sym c.right_checksum.ensures ∙ c.if-right_checksum.true))
 
-pub returns-else-right_checksum : goal.returns-else-right_checksum
-returns-else-right_checksum c = not_right c.args.end c.args.part.now c.args.k c.args.places.now (sym c.right_checksum.ensures ∙ c.if-right_checksum.false)
+pub returns-else-number-end : goal.returns-else-number-end
+returns-else-number-end c =
+    let read : c.word-number.result ≡ number c.args.part.now = c.word-number.ensures.0 ∙ sym (number_is c.args.part.now) in
+    elim c.else-number-end.branch [
+      else-number-end-via-then-number-end+then-places-number-eq0+else-right_checksum w ↦ not_right c.args.end c.args.part.now c.args.k c.args.places.now (sym w.right_checksum.ensures ∙ w.if-right_checksum.false)
+      | else-number-end-via-then-number-end+else-places-number-eq0 w ↦ has-place c.args.end c.args.part.now c.args.k c.args.places.now (rw read at w.if-places-number-eq0.false)
+      | else-number-end-via-else-number-end w ↦ not_below c.args.end c.args.part.now c.args.k c.args.places.now (omega (arith, read, w.if-number-end.false))
+    ]

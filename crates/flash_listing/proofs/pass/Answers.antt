@@ -1,0 +1,16 @@
+use Rattle.flash_listing.specs.Passing.{whole}
+use Rattle.flash_listing.proofs.MarkLaws.{pass-first}
+use Rattle.flash_listing.proofs.ListedLaws.{passed-start, passed-then, passed-known}
+use Rattle.flash_listing.proofs.pass.Goals as goal
+
+pub loop-at-init : goal.loop-at-init
+loop-at-init g c = passed-start c.args.marks.now c.args.kept.now (whole c.args.p) (pass-first c.args.marks.now c.args.p c.requires.long)
+
+pub next_new-requires : goal.next_new-requires
+next_new-requires g c = c.loop-at.invariant.pass_at
+
+pub loop-at-preserved : goal.loop-at-preserved
+loop-at-preserved g c = passed-then (passed-known c.loop-at.invariant c.in-Some.ensures.passed) c.mark_run-reached.ensures.passed
+
+pub returns : goal.returns
+returns g c = passed-known c.loop-at.invariant c.in_default.ensures
