@@ -7,7 +7,7 @@ ghost use Rattle.words.specs.LittleEndian.{Little};
 ghost use Rattle.checksum.specs.Crc.{shifts, checksum_of};
 ghost use Rattle.checksum.specs.Polynomial.{rem, rem_little, rem_two, rem_three, rem_of};
 
-use crate::folding::{fold64, remainder};
+use crate::folding::{fold, remainder};
 use words::loads::{little6_of8, little8};
 
 // A polynomial of 256 digits, the highest in a.
@@ -54,7 +54,7 @@ impl Four {
     {
         let (t, u) = fold128(self.a, self.b, self.c);
         let (v, w) = fold128(t, u, self.d);
-        remainder(fold64(v.swap_bytes()) ^ w.swap_bytes())
+        remainder(fold::<64>(v.swap_bytes()) ^ w.swap_bytes())
     }
 }
 

@@ -12,7 +12,7 @@ ghost use Rattle.checksum.specs.Crc.{crc_from, checksum_of};
 
 use crate::block::of_block;
 use crate::bytewise::take_bytes;
-use crate::folding::{fold16, fold64, remainder};
+use crate::folding::{fold, remainder};
 use crate::runs::of_run;
 use words::loads::big8;
 
@@ -23,9 +23,9 @@ fn of_words(bytes: &[u8]) -> u16
     let (words, rest) = bytes.as_chunks::<8>();
     let mut a: u64 = 33999;
     for word in words {
-        a = fold64(a) ^ big8(word, 0);
+        a = fold::<64>(a) ^ big8(word, 0);
     }
-    take_bytes(rest, fold16(remainder(a)))
+    take_bytes(rest, fold::<16>(remainder(a).into()) as u16)
 }
 
 // The checksum of these bytes; that of a run of 62, which a block of an image has, and of one that ends as a slot's 110 do, by quicker

@@ -8,4 +8,4 @@ returns c =
     let t = c.fold128-t in
     let v = c.fold128-v in
     c.remainder.ensures ∙ four-remainder f.a f.b f.c f.d t.result.0 t.result.1 v.result.0 v.result.1
-    c.swap_bytes.result c.swap_bytes-2.result c.fold64.result t.ensures v.ensures c.swap_bytes.ensures c.fold64.ensures c.swap_bytes-2.ensures
+    c.swap_bytes.result c.swap_bytes-2.result c.fold.result t.ensures v.ensures c.swap_bytes.ensures c.fold.ensures.shifted c.swap_bytes-2.ensures
