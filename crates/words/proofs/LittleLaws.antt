@@ -74,14 +74,3 @@ little-repeated b (suc n) {s} {at} {w} h known e (suc k) lt =
     let high : w / 256 ≡ repeated b n = omega arith in
     let next : at + suc k ≡ at + 1 + k = omega arith in
     ap (λ (i : ℕ). get_or s i 0) next ∙ little-repeated b n h (rest known) high k (omega arith)
-
--- .. and where each is, the word is that
-pub repeated-little : (b n : ℕ) {s : List ℕ} {at w : ℕ} → Little n s at w → ((k : ℕ) → k < n → get_or s (at + k) 0 ≡ b) → w ≡ repeated b n
-repeated-little b zero known alike = known.says
-repeated-little b (suc n) {s} {at} {w} known alike =
-    let low : w % 256 ≡ b = sym known.says.0 ∙ ap (λ (i : ℕ). get_or s i 0) (sym (add-zero at)) ∙ alike 0 (omega arith) in
-    let high : w / 256 ≡ repeated b n = repeated-little b n (rest known) (λ k h. ap (λ (i : ℕ). get_or s i 0) (next k) ∙ alike (suc k) (omega arith)) in
-    omega arith
-  where
-    next : (k : ℕ) → at + 1 + k ≡ at + suc k
-    next k = omega arith
