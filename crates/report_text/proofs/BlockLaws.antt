@@ -2,11 +2,11 @@
 use Prim.Native.Nat.{ℕ, zero, suc, ◌+◌, ◌-◌, ◌≤◌, ◌<◌}
 use mathlib.Core.Path.{◌≡◌, refl, sym, ap, ◌∙◌}
 use mathlib.Core.Bool.{Bool, true, false, ◌&&◌}
-use mathlib.Core.List.{List, [], ◌∷◌, ◌++◌, map}
+use mathlib.Core.List.{List, [], ◌∷◌, ◌++◌, map, append_assoc, append-nil}
 use Rattle.std.specs.Prelude.{Option, None, Some}
 use mathlib.Core.Logic.{◌≢◌}
 use native.Mathlib.Omega.{arith}
-use lib.ListN.{length, get_or}
+use lib.ListN.{length, length-append}
 use lib.Dec.{leb}
 use Rattle.words.specs.Lists.{keep, concat, numbers_from, is_some, to_list}
 use Rattle.words.proofs.SearchLaws.{lowest-some}
@@ -18,12 +18,11 @@ use Rattle.flash_model.proofs.MeaningLaws.{meanings, next_live_lem, none_live}
 use Rattle.flash_model.proofs.SoundLaws.{unrefused-sound}
 use Rattle.flash_model.proofs.CallLaws.{answered-code, accepted-values}
 use Rattle.flash_model.proofs.MeasureLaws.{measures-of}
-use Rattle.flash.specs.Answers.{next_answer}
-use Rattle.flash.specs.declared.LiveNumber.{LiveNumber}
-use Rattle.flash.specs.declared.LiveNumber.TheVariants.{Hit, Refused}
+use Rattle.std.specs.declared.result.Result.TheVariants.{Ok, Err}
+use Rattle.flash_model.specs.declared.FlashError.{FlashError}
+use Rattle.flash_model.specs.Errors.{error_number, number_answer}
+use Rattle.flash_model.proofs.ErrorLaws.{error-refuses}
 use Rattle.report_text.specs.Text.{line, block_word, block_lines}
-use Rattle.report_text.specs.Written.{Wrote}
-use Rattle.report_text.proofs.WrittenLaws.{StillToWrite, left-nothing}
 
 -- ---- kept numbers of a range
 
@@ -84,46 +83,46 @@ module _ (image : List ℕ) (sound : Sound image) (from : ℕ) where
       ap (λ (k : List ℕ). concat (map (line block_word) k))
       (keep-none (is_live image) (capacity (length image)) (capacity (length image) - from) from refl (λ m a. ap is_some (none_live image from sound e m a)))
 
--- ---- what next-live answers
+-- ---- what next-live answers, and so a turn of the loop that puts the lines behind a text
 
-module _ (image : List ℕ) (partition from : ℕ) (r : LiveNumber) (a : Answered image (on_whole (next_live partition from)) image (next_answer r)) where
-  abbrev asked : Call
-  asked = on_whole (next_live partition from)
+abbrev asked : ℕ → ℕ → Call
+asked partition from = on_whole (next_live partition from)
 
-  pub answer-number : {n : ℕ} → r ≡ Hit n → lowest_live image from ≡ Some n
-  answer-number {n} e =
-      go (lowest_live image from) (ap (λ (x : LiveNumber). (next_answer x).values) (sym e) ∙ accepted-values image asked image (next_answer r) a (ap (λ (x : LiveNumber). (next_answer x).code) e))
+module _ {image : List ℕ} {partition from : ℕ} (passed : refusal image partition ≡ 0) (n : ℕ) (a : Answered image (asked partition from) image (number_answer (Ok n) [])) where
+  lowest_is : lowest_live image from ≡ Some n
+  lowest_is = go (lowest_live image from) (accepted-values image (asked partition from) image (number_answer (Ok n) []) a refl)
     where
       go : (o : Option ℕ) → n ∷ [] ≡ to_list o → o ≡ Some n
-      go None v = absurd (omega (arith, ap length v))
-      go (Some m) v = ap (λ (l : List ℕ). Some (get_or l 0 0)) (sym v)
+      go None v = cc
+      go (Some m) v = cc
 
-  pub answer-none : {code : ℕ} → refusal image partition ≡ 0 → r ≡ Refused code → lowest_live image from ≡ None
-  unfolding code_of
-  answer-none {code} passed e = go (lowest_live image from) refl
-    where
-      go : (o : Option ℕ) → lowest_live image from ≡ o → o ≡ None
-      go None q = refl
-      go (Some m) q =
-          let z : (next_answer r).code ≡ 0 = answered-code image asked image (next_answer r) a ∙ rw (passed, q) in
-          let v = ap (λ (x : LiveNumber). (next_answer x).values) (sym e) ∙ accepted-values image asked image (next_answer r) a z ∙ ap to_list q in
-          absurd (omega (arith, ap length v))
-
--- ---- a turn of the loop that writes them
-
-module _ (image : List ℕ) (partition from : ℕ) (passed : refusal image partition ≡ 0) (r : LiveNumber) (a : Answered image (on_whole (next_live partition from)) image (next_answer r)) where
-  sound : Sound image
-  sound = unrefused-sound image partition passed
-
-  pub number-low : {n : ℕ} → r ≡ Hit n → (from ≤ n) × ((n < capacity (length image)) × (n < 65535))
-  number-low e =
-      let l = live-low image sound from _ (answer-number image partition from r a e) in
+  pub number_low : (from ≤ n) × ((n < capacity (length image)) × (n < 65535))
+  number_low =
+      let sound = unrefused-sound image partition passed in
+      let l = live-low image sound from n lowest_is in
       let m = measures-of (length image) ((meanings.sound_means image).0 sound).legal_size_lem in
       (l.0, (l.1, omega (arith, l.1, m.two_bytes)))
 
-  module _ {first : List ℕ} {at : ℕ} {whole out : List ℕ} {end : ℕ} (l : StillToWrite first at whole out end (lines_from image from)) where
-    pub number-left : {n : ℕ} → r ≡ Hit n → StillToWrite first at whole out end (line block_word n ++ lines_from image (n + 1))
-    number-left e = rw (sym (lines_next image sound from _ (answer-number image partition from r a e))) l
+  module _ (text whole : List ℕ) (put : text ++ lines_from image from ≡ whole) where
+    pub line_put : (text ++ line block_word n) ++ lines_from image (n + 1) ≡ whole
+    line_put =
+        append_assoc text (line block_word n) (lines_from image (n + 1))
+        ∙ rw (← (lines_next image (unrefused-sound image partition passed) from n lowest_is)) put
 
-    pub none_left : {code : ℕ} → r ≡ Refused code → Wrote first at whole out end
-    none_left e = left-nothing (rw (lines_end image sound from (answer-none image partition from r a passed e)) at l)
+    pub line_fits : length text + length (line block_word n) ≤ length whole
+    line_fits = omega (arith, simp length-append at (ap length line_put))
+
+module _ {image : List ℕ} {partition from : ℕ} (passed : refusal image partition ≡ 0) (e : FlashError) (a : Answered image (asked partition from) image (number_answer (Err e) [])) where
+  no_number : lowest_live image from ≡ None
+  unfolding code_of
+  no_number = go (lowest_live image from) refl
+    where
+      code : error_number e ≡ code_of image (asked partition from)
+      code = answered-code image (asked partition from) image (number_answer (Err e) []) a
+
+      go : (o : Option ℕ) → lowest_live image from ≡ o → o ≡ None
+      go None q = refl
+      go (Some m) q = let z : error_number e ≡ 0 = code ∙ rw (passed, q) in let f = error-refuses e in absurd (cc)
+
+  pub all_put : (text whole : List ℕ) → text ++ lines_from image from ≡ whole → text ≡ whole
+  all_put text whole put = sym (append-nil text) ∙ rw (← (lines_end image (unrefused-sound image partition passed) from no_number)) put

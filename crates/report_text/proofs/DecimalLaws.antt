@@ -1,14 +1,13 @@
 -- The decimal digits of a number, one more at each step. Assumes nothing.
-use Prim.Native.Nat.{ℕ, zero, suc, ◌/◌, ◌%◌, ◌≤◌, ◌<◌}
-use mathlib.Core.Path.{◌≡◌, refl, sym, ap}
+use Prim.Native.Nat.{ℕ, zero, suc, ◌+◌, ◌/◌, ◌%◌, ◌≤◌, ◌<◌}
+use mathlib.Core.Path.{◌≡◌, refl, sym, ap, ◌∙◌}
 use mathlib.Core.Bool.{Bool, true, false}
-use mathlib.Core.List.{List, [], ◌∷◌, ◌++◌}
+use mathlib.Core.List.{List, [], ◌∷◌, ◌++◌, append_assoc}
 use native.Mathlib.Omega.{arith}
 use lib.Dec.{ltb}
+use lib.ListN.{length, length-append}
 use borrow.Author.Tests.{ltb-false, lt-ltb, le-ltb}
 use Rattle.report_text.specs.Text.{digit, digits_in, decimal, line}
-use Rattle.report_text.specs.Written.{Fits, Wrote}
-use Rattle.report_text.proofs.WrittenLaws.{StillToWrite, left-start, left-room, left-next}
 
 -- any bound that is enough gives the same digits
 digits-any : (a b n : ℕ) → n ≤ a → n ≤ b → digits_in a n ≡ digits_in b n
@@ -35,22 +34,19 @@ decimal_step (suc n) h =
     rw (le-ltb (suc n) 10 h)
     (ap (λ (d : List ℕ). d ++ digit (suc n % 10) ∷ []) (digits-any n (suc n / 10) (suc n / 10) (omega (arith, h)) (omega arith)))
 
--- ---- the pieces of a number and of a line
+-- what is added digit by digit, and piece by piece of a line, is the whole
+pub decimal_joined : (before : List ℕ) (n : ℕ) → 10 ≤ n → (before ++ decimal (n / 10)) ++ digit (n % 10) ∷ [] ≡ before ++ decimal n
+decimal_joined before n h = append_assoc before (decimal (n / 10)) (digit (n % 10) ∷ []) ∙ ap (λ (d : List ℕ). before ++ d) (sym (decimal_step n h))
 
-module _ {out : List ℕ} {at : ℕ} (n : ℕ) (h : Fits out at (decimal n)) where
-  pub digit-fits : n < 10 → Fits out at (digit (n % 10) ∷ [])
-  digit-fits small = rw (decimal_digit n small) at h
+pub decimal_length : (n : ℕ) → 10 ≤ n → length (decimal n) ≡ length (decimal (n / 10)) + 1
+decimal_length n h = rw (decimal_step n h) (length-append (decimal (n / 10)) (digit (n % 10) ∷ []))
 
-  digits-left : 10 ≤ n → StillToWrite out at (decimal n) out at (decimal (n / 10) ++ digit (n % 10) ∷ [])
-  digits-left more = rw (sym (decimal_step n more)) (left-start h)
-
-  pub front_fits : 10 ≤ n → Fits out at (decimal (n / 10))
-  front_fits more = left-room (decimal (n / 10)) (digit (n % 10) ∷ []) (digits-left more)
-
-  pub front-left : {out' : List ℕ} {end : ℕ} → 10 ≤ n → Wrote out at (decimal (n / 10)) out' end → StillToWrite out at (decimal n) out' end (digit (n % 10) ∷ [])
-  front-left more w = left-next (decimal (n / 10)) (digit (n % 10) ∷ []) (digits-left more) w
-
-pub line-left : {out : List ℕ} {at : ℕ} (label : List ℕ) (n : ℕ) → Fits out at (line label n)
-    → StillToWrite out at (line label n) out at (label ++ (32 ∷ (decimal n ++ 10 ∷ [])))
+pub line_joined : (before label : List ℕ) (n : ℕ) → (((before ++ label) ++ 32 ∷ []) ++ decimal n) ++ 10 ∷ [] ≡ before ++ line label n
 unfolding line
-line-left label n h = left-start h
+line_joined before label n = simp append_assoc
+
+pub line_length : (label : List ℕ) (n : ℕ) → length (line label n) ≡ length label + length (decimal n) + 2
+unfolding line
+line_length label n = simp length-append (omega arith)
+
+pub ruleset digits = (decimal_digit, decimal_joined, decimal_length)

@@ -1,79 +1,80 @@
 #![tactic(auto)]
 
-// The text of a partition report, made in a buffer that the caller lends.
+// The text of a partition report.
 mod writing;
 
-ghost use Rattle.std.specs.Prelude.{ℕ, ◌<◌, ◌≡◌, List, ◌++◌, length, drop};
+ghost use Rattle.std.specs.Prelude.{ℕ, ◌+◌, ◌<◌, ◌≤◌, ◌≡◌, List, ◌++◌, length};
 ghost use Rattle.flash_model.specs.Partition.{refusal};
 ghost use Rattle.report_text.specs.Text.{line, refused_word, partition_for, head_lines, block_lines, report_text};
-ghost use Rattle.report_text.specs.Written.{Fits, Wrote};
 
-use flash::{Counts, LiveNumber, Summary};
-use writing::{put_line, put_text};
+use flash::Counts;
+use words::byte_list::ByteList;
+use writing::put_line;
+
+// No report is longer than 11,293 bytes; this is the next multiple of 4,096.
+pub type Text = ByteList<12288>;
 
 // The partition that the program names for an image of this length.
+#[tactic(auto, unfolding(crate::specs::Text::partition_for))]
 fn partition_for(size: usize) -> u8
     ensures { result ≡ partition_for size }
 {
-    if size == 16384 {
-        return 2;
+    match size {
+        16384 => 2,
+        32768 => 3,
+        _ => 4,
     }
-    if size == 32768 {
-        return 3;
-    }
-    4
 }
 
 // The lines before the block lines.
-fn put_head(out: &mut [u8], partition: u8, counts: Counts) -> usize
-    requires { Fits out.old 0 (head_lines partition counts.version counts.capacity counts.used counts.live) }
-    ensures { Wrote out.old 0 (head_lines partition counts.version counts.capacity counts.used counts.live) out.new result }
+#[tactic(auto, unfolding(crate::specs::Text::head_lines))]
+fn put_head(text: &mut Text, partition: u8, counts: Counts)
+    requires { length text.old + length (head_lines partition counts.version counts.capacity counts.used counts.live) ≤ 12288 }
+    ensures { text.new ≡ text.old ++ head_lines partition counts.version counts.capacity counts.used counts.live }
 {
-    let version_at = put_line(out, 0, b"partition", partition as usize);
-    let user_at = put_line(out, version_at, b"version", counts.version as usize);
-    let used_at = put_line(out, user_at, b"user", counts.capacity);
-    let live_at = put_line(out, used_at, b"used", counts.used);
-    put_line(out, live_at, b"live", counts.live)
+    put_line(text, b"partition", usize::from(partition));
+    put_line(text, b"version", usize::from(counts.version));
+    put_line(text, b"user", counts.capacity);
+    put_line(text, b"used", counts.used);
+    put_line(text, b"live", counts.live);
 }
 
 // A line for each live number.
-fn put_blocks(out: &mut [u8], at: usize, image: &[u8], partition: u8) -> usize
-    requires { (refusal image.now partition ≡ 0) × Fits out.old at (block_lines image.now) }
-    ensures { Wrote out.old at (block_lines image.now) out.new result }
+fn put_blocks(text: &mut Text, image: &[u8], partition: u8)
+    requires sound { refusal image.now partition ≡ 0 }
+    requires room { length text.old + length (block_lines image.now) ≤ 12288 }
+    ensures { text.new ≡ text.old ++ block_lines image.now }
 {
-    let mut end = at;
     let mut from = 0;
-    loop {
-        let LiveNumber::Hit(n) = flash::next_live(image, partition, from) else {
-            return end;
-        };
-        end = put_line(out, end, b"block", n);
+    while let Ok(n) = flash::next_live(image, partition, from) {
+        put_line(text, b"block", n);
         from = n + 1;
     }
 }
 
-// Writes the report's text at the start of the buffer and answers its length. The rest of the buffer stays as it was. No text is
-// longer than 11,293 bytes; the buffer is the next multiple of 4,096.
-pub fn write_report(image: &[u8], out: &mut [u8; 12288]) -> usize
-    ensures value { result ≡ length (report_text image.now) }
-    ensures out_after { out.new ≡ report_text image.now ++ drop result out.old }
+// The whole text that the program prints for this image.
+pub fn write_report(image: &[u8]) -> Text
+    ensures { result ≡ report_text image.now }
 {
     let partition = partition_for(image.len());
+    let mut text = Text::new();
     match flash::report(image, partition) {
-        Summary::Refused(refused) => put_line(out, 0, b"refused", refused as usize),
-        Summary::Counted(counts) => {
-            let head = put_head(out, partition, counts);
-            let lines = put_blocks(out, head, image, partition);
-            put_text(out, lines, b"end\n")
+        Ok(counts) => {
+            put_head(&mut text, partition, counts);
+            put_blocks(&mut text, image, partition);
+            text.extend_from_slice(b"end\n");
         }
+        Err(refused) => put_line(&mut text, b"refused", usize::from(u8::from(refused))),
     }
+    text
 }
 
 // The same for any image longer than every partition, without being lent the image.
-pub fn write_too_long(out: &mut [u8; 12288]) -> usize
-    ensures value { result ≡ length (line refused_word 1) }
-    ensures out_after { out.new ≡ line refused_word 1 ++ drop result out.old }
+pub fn write_too_long() -> Text
+    ensures value { result ≡ line refused_word 1 }
     ensures by_index { (image : List ℕ) → 65536 < length image → report_text image ≡ line refused_word 1 }
 {
-    put_line(out, 0, b"refused", 1)
+    let mut text = Text::new();
+    put_line(&mut text, b"refused", 1);
+    text
 }

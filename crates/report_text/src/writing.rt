@@ -1,47 +1,29 @@
-// Text written into a buffer, one piece behind the other: each call answers the place behind what it wrote.
-ghost use Rattle.std.specs.Prelude.{[], ◌∷◌};
+// Pieces of a text, each put behind what is there.
+ghost use Rattle.std.specs.Prelude.{◌+◌, ◌≤◌, ◌≡◌, ◌++◌, length};
 ghost use Rattle.report_text.specs.Text.{decimal, line};
-ghost use Rattle.report_text.specs.Written.{Fits, Wrote};
 
-// A run of bytes.
-pub fn put_text(out: &mut [u8], at: usize, text: &[u8]) -> usize
-    requires { Fits out.old at text.now }
-    ensures { Wrote out.old at text.now out.new result }
-{
-    let end = at + text.len();
-    out[at..end].copy_from_slice(text);
-    end
-}
-
-// One byte.
-fn put_byte(out: &mut [u8], at: usize, byte: u8) -> usize
-    requires { Fits out.old at (byte ∷ []) }
-    ensures { Wrote out.old at (byte ∷ []) out.new result }
-{
-    out[at] = byte;
-    at + 1
-}
+use crate::Text;
 
 // A number's decimal digits.
-fn put_decimal(out: &mut [u8], at: usize, n: usize) -> usize
-    requires { Fits out.old at (decimal n) }
-    ensures { Wrote out.old at (decimal n) out.new result }
+#[tactic(auto, using(crate::proofs::DecimalLaws::digits))]
+fn put_decimal(text: &mut Text, n: usize)
+    requires { length text.old + length (decimal n) ≤ 12288 }
+    ensures { text.new ≡ text.old ++ decimal n }
 {
-    let last = (48 + n % 10) as u8;
-    if n < 10 {
-        return put_byte(out, at, last);
+    if n >= 10 {
+        put_decimal(text, n / 10);
     }
-    let end = put_decimal(out, at, n / 10);
-    put_byte(out, end, last)
+    text.extend_from_slice(&[b'0' + (n % 10) as u8]);
 }
 
 // A line: a word, a blank and a number.
-pub fn put_line(out: &mut [u8], at: usize, label: &[u8], n: usize) -> usize
-    requires { Fits out.old at (line label.now n) }
-    ensures { Wrote out.old at (line label.now n) out.new result }
+#[tactic(auto, unfolding(crate::specs::Text::line))]
+pub fn put_line(text: &mut Text, label: &[u8], n: usize)
+    requires { length text.old + length (line label.now n) ≤ 12288 }
+    ensures { text.new ≡ text.old ++ line label.now n }
 {
-    let blank = put_text(out, at, label);
-    let number = put_byte(out, blank, b' ');
-    let end = put_decimal(out, number, n);
-    put_byte(out, end, b'\n')
+    text.extend_from_slice(label);
+    text.extend_from_slice(b" ");
+    put_decimal(text, n);
+    text.extend_from_slice(b"\n");
 }

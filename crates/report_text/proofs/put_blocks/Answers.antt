@@ -1,35 +1,22 @@
-use Prim.Native.Nat.{◌+◌, ◌≤◌, ◌<◌}
-use mathlib.Core.List.{◌++◌}
-use native.Mathlib.Omega.{arith}
-use lib.ListN.{length}
-use Rattle.flash_model.specs.Measures.{capacity}
-use Rattle.report_text.specs.Text.{line, block_word, block_lines}
-use Rattle.report_text.proofs.BlockLaws.{lines_from, lines-all, number-low, number-left, none_left}
-use Rattle.report_text.proofs.WrittenLaws.{StillToWrite, left-start, left-room, left-next}
+use Rattle.std.proofs.Common.{arith, length-append}
+use Rattle.report_text.specs.Text.{block_lines}
+use Rattle.report_text.proofs.BlockLaws.{lines-all, number_low, line_put, line_fits, all_put}
 use Rattle.report_text.proofs.put_blocks.Goals as goal
 
 pub loop-n-init : goal.loop-n-init
-loop-n-init c = rw (lines-all c.args.image.now) (left-start c.requires.1)
+loop-n-init c = rw (lines-all c.args.image.now)
 
-pub returns-in_default : goal.returns-in_default
-returns-in_default c = none_left _ _ _ c.requires.0 _ c.next_live.ensures c.loop-n.invariant c.in_default.is
-
-pub put_line-end-requires : goal.put_line-end-requires
-put_line-end-requires c =
-    let line-next : StillToWrite c.args.out.now c.args.at (block_lines c.args.image.now) c.loop-n.out c.loop-n.end (line block_word c.in-Hit.n ++ lines_from c.args.image.now (c.in-Hit.n + 1)) = number-left _ _ _ c.requires.0 _ c.next_live.ensures c.loop-n.invariant c.in-Hit.is in
-    left-room _ _ line-next
+pub put_line-requires : goal.put_line-requires
+put_line-requires c = omega (arith, line_fits c.requires.sound c.in-Ok.n c.in-Ok.ensures _ _ c.loop-n.invariant, length-append c.args.text.now (block_lines c.args.image.now))
 
 pub overflow_add-from : goal.overflow_add-from
-overflow_add-from c =
-    let low : (c.loop-n.from ≤ c.in-Hit.n) × ((c.in-Hit.n < capacity (length c.args.image.now)) × (c.in-Hit.n < 65535)) = number-low _ _ _ c.requires.0 _ c.next_live.ensures c.in-Hit.is in
-    omega (arith, low)
+overflow_add-from c = omega (arith, number_low c.requires.sound c.in-Ok.n c.in-Ok.ensures)
 
 pub loop-n-smaller : goal.loop-n-smaller
-loop-n-smaller c =
-    let low : (c.loop-n.from ≤ c.in-Hit.n) × ((c.in-Hit.n < capacity (length c.args.image.now)) × (c.in-Hit.n < 65535)) = number-low _ _ _ c.requires.0 _ c.next_live.ensures c.in-Hit.is in
-    omega (arith, low)
+loop-n-smaller c = omega (arith, number_low c.requires.sound c.in-Ok.n c.in-Ok.ensures)
 
 pub loop-n-preserved : goal.loop-n-preserved
-loop-n-preserved c =
-    let line-next : StillToWrite c.args.out.now c.args.at (block_lines c.args.image.now) c.loop-n.out c.loop-n.end (line block_word c.in-Hit.n ++ lines_from c.args.image.now (c.in-Hit.n + 1)) = number-left _ _ _ c.requires.0 _ c.next_live.ensures c.loop-n.invariant c.in-Hit.is in
-    left-next _ _ line-next c.put_line-end.ensures
+loop-n-preserved c = rw c.put_line.ensures (line_put c.requires.sound c.in-Ok.n c.in-Ok.ensures _ _ c.loop-n.invariant)
+
+pub returns : goal.returns
+returns c = all_put c.requires.sound _ c.in_default.ensures _ _ c.loop-n.invariant

@@ -1,13 +1,12 @@
-use mathlib.Core.Path.{◌≡◌}
-use lib.ListN.{length}
-use Rattle.report_text.proofs.TextLaws.{long-fits, long-text, long-written}
-use borrow.Author.Rules.{rules}
+use Rattle.std.proofs.Common.{arith}
+use Rattle.std.proofs.lemmas.Grind.{common_steps}
+use Rattle.report_text.specs.Text.{refused_word}
+use Rattle.report_text.proofs.RoomLaws.{line-short}
+use Rattle.report_text.proofs.TextLaws.{long_text}
 use Rattle.report_text.proofs.write_too_long.Goals as goal
 
 pub put_line-requires : goal.put_line-requires
-put_line-requires c =
-    let long : length c.args.out.now ≡ 12288 = search rules in
-    long-fits _ long
+put_line-requires c = grind (arith, common_steps, line-short refused_word 1)
 
-pub returns : goal.returns
-returns c = let w = long-written c.put_line.ensures in record { value = w.0; out_after = w.1; by_index = long-text }
+pub returns-clause-by_index : goal.returns-clause-by_index
+returns-clause-by_index c = long_text
