@@ -21,10 +21,10 @@ pub unused-right : (directory : List (List ℕ)) (i : ℕ) → is_used (entry_at
 unfolding wrong_entry
 unused-right directory i u = rw u
 
--- a listed entry has a name exactly if its bytes there are the name's
-pub listed-named : (name : List ℕ) {s entry : List ℕ} → s ≡ entry → is_used entry ≡ true → same_bytes (name_of s) name ≡ is_named name entry
+-- a used entry has a name exactly if its bytes there are the name's
+pub used-named : (name entry : List ℕ) → is_used entry ≡ true → same_bytes (name_of entry) name ≡ is_named name entry
 unfolding is_named
-listed-named name e u = rw (e, u)
+used-named name entry u = rw u
 
 pub unused-unnamed : (directory : List (List ℕ)) (name : List ℕ) (i : ℕ) → is_used (entry_at directory i) ≡ false → is_named name (entry_at directory i) ≡ false
 unfolding is_named

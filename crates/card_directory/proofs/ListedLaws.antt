@@ -34,9 +34,6 @@ reached-pushed used x zero h = refl
 reached-pushed used x (suc j) h = ap suc (before-pushed used x j h)
 
 module _ (directory : List (List ℕ)) where
-  pub listed_start : (used : List ℕ) → Listed directory 0 used 0
-  listed_start used = record { long = omega arith; fits = omega arith; each = λ j h. absurd (omega arith); rest = λ k a b. absurd (omega arith) }
-
   later : {start i end n : ℕ} → i ≤ end → NextUsed directory start i n → NextUsed directory start end n
   later h u = record { from_start = u.from_start; before_end = omega (arith, u.before_end); is_used_lem = u.is_used_lem; skipped = u.skipped }
 

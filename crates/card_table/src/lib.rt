@@ -1,7 +1,7 @@
 #![tactic(auto)]
 
 // The root block and the table of a card: refusals 21 to 25, the table's entries and their classes.
-ghost use Rattle.std.specs.Prelude.{◌≡◌, ℕ, Bool, ◌+◌, ◌-◌, ◌≤◌, ◌<◌};
+ghost use Rattle.std.specs.Prelude.{◌≡◌, ℕ, Bool, ◌+◌, ◌≤◌, ◌<◌};
 ghost use Rattle.verdicts.specs.Rows.{rule_number, result_verdict};
 ghost use Rattle.card_model.specs.Layout.{card_length, root_of, fat_place, table_of};
 ghost use Rattle.card_model.specs.Table.{magic_row, fields_row, right_fields, fat_entry, link_of, system_entry, free_or_damaged, is_bad, system_row, hidden_row, user_row};

@@ -1,4 +1,4 @@
-use Rattle.std.proofs.Common.{rules, refl, ◌≡◌, sym, ap, ◌∙◌, ◌<◌, get_or}
+use Rattle.std.proofs.Common.{rules, ◌≡◌, sym, ap, ◌∙◌, ◌<◌, get_or}
 use lib.Dec.{eqb}
 use lib.Pointwise.{pointwise}
 use Rattle.words.proofs.SameLaws.{pointwise-same}
@@ -6,7 +6,7 @@ use Rattle.words.specs.Words.{same_bytes}
 use Rattle.card_model.specs.Layout.{card_length, directory_of}
 use Rattle.card_model.specs.Entries.{entry_at, name_of, is_named}
 use Rattle.card_model.specs.Calls.{entry_named}
-use Rattle.card_directory.proofs.DirectoryLaws.{no-such-length, listed-named, unused-unnamed}
+use Rattle.card_directory.proofs.DirectoryLaws.{no-such-length, used-named, unused-unnamed}
 use Rattle.card_directory.proofs.ListedLaws.{first_from, found-listed}
 use Rattle.card_directory.proofs.search.find_named.Goals as goal
 
@@ -31,4 +31,4 @@ returns c =
     let own = name_of (entry_at directory (get_or c.args.used.now j 0)) in
     let e : r ≡ pointwise eqb own c.in-Ok.name.now = search rules in
     e ∙ ap (pointwise eqb own) whole ∙ pointwise-same own name)
-    ∙ found-listed c.requires (λ i. is_named name (entry_at directory i)) _ (unused-unnamed directory name) (λ i u. listed-named name refl u)
+    ∙ found-listed c.requires (λ i. is_named name (entry_at directory i)) _ (unused-unnamed directory name) (λ i u. used-named name _ u)
