@@ -1,14 +1,18 @@
--- The check row by row: what was found of a row is the verdict, or the rows behind it decide. Assumes nothing.
+-- The check row by row: the first row that refuses is the verdict, or the rows behind it decide. Assumes nothing.
 use Prim.Native.Nat.{ℕ, ◌<◌}
 use mathlib.Core.Path.{◌≡◌, refl, sym, ap, ◌∙◌}
-use mathlib.Core.Bool.{true, false}
+use mathlib.Core.Bool.{false}
 use mathlib.Core.List.{List}
-use borrow.Author.Tests.{eqb-true, eq-eqb, ne_eqb}
+use borrow.Author.Tests.{eq-eqb, ne_eqb}
 use lib.ListN.{length}
+use Rattle.std.specs.Array.{IsWholeChunk}
+use Rattle.std.specs.Result.{IsErrAnd}
+use Rattle.std.specs.declared.result.Result.{Result}
+use Rattle.std.proofs.lemmas.Result.{err_from_is_err_and}
 use Rattle.verdicts.specs.declared.Place.TheVariants.{Whole, Entry}
-use Rattle.verdicts.specs.Rows.{Verdict}
-use Rattle.verdicts.specs.Rows.{refused_at, accepted, unless_refused}
-use Rattle.verdicts.proofs.RowLaws.{refused_first, not_refused, rows-joined}
+use Rattle.verdicts.specs.declared.CardError.{CardError}
+use Rattle.verdicts.specs.Rows.{Verdict, done, refused_at, accepted, unless_refused, error_verdict, result_verdict}
+use Rattle.verdicts.proofs.RowLaws.{error_first, passed_first, rows-joined}
 use Rattle.card_model.specs.Layout.{card_length, root_of, table_of, directory_of}
 use Rattle.card_model.specs.Entries.{wrong_entry, entry_at, entry_row, name_row}
 use Rattle.card_model.specs.Files.{chain_row, sharing_row, game_row}
@@ -17,45 +21,76 @@ use Rattle.card_model.proofs.SoundLaws.{unless-accepts, below-accepts}
 use Rattle.card_games.specs.Rules.{GoodChains}
 use Rattle.card_chains.specs.Rows.{chain_rows}
 
--- where a call is refused, nothing is said of what it is lent
-pub refusal : {A : Type 0} {r v whole : Verdict} → r ≡ v → (v.number ≡ 0 → ⊥) → v ≡ whole → (r ≡ whole) × (accepted r ≡ true → A)
-refusal e n q = (e ∙ q, λ a. absurd (n (eqb-true _ _ (sym (ap accepted e) ∙ a))))
+-- what `?` hands on of a row's refusal
+pub handed_on : {A : Type 0} (r : Result A CardError) (e : CardError) → IsErrAnd r (λ y. y ≡ e) → {v : Verdict} → error_verdict e ≡ v → result_verdict r ≡ v
+handed_on r e h q =
+    let p = err_from_is_err_and r h in
+    rw (p.1, p.2) q
 
--- r was found of row v, and from there on the rows decide what the whole check does
-module _ (v later : Verdict) {whole r : Verdict} (from : unless_refused v later ≡ whole) (e : r ≡ v) where
-  pub refuses : (r.number ≡ 0 → ⊥) → r ≡ whole
-  refuses n = sym (refused_first v later r e n) ∙ from
+-- where row v and those behind it decide: v's refusal, handed on by `?`, is the verdict, and else the later rows are
+module _ (v later : Verdict) {whole : Verdict} (from : unless_refused v later ≡ whole) where
+  pub refuses : {A : Type 0} (r : Result A CardError) (e : CardError) → error_verdict e ≡ v → IsErrAnd r (λ y. y ≡ e) → result_verdict r ≡ whole
+  refuses r e q h = handed_on r e h (sym (error_first e v later q) ∙ from)
 
-  pub passes : r.number ≡ 0 → later ≡ whole
-  passes z = sym (not_refused v later r e z) ∙ from
+  pub passes : done ≡ v → later ≡ whole
+  passes q = sym (passed_first v later q) ∙ from
+
+pub wrong-length : (card : List ℕ) → (length card ≡ card_length → ⊥) → refused_at 20 Whole ≡ verdict_of card
+unfolding verdict_of length_row
+wrong-length card n = rw (ne_eqb (length card) card_length n)
+
+-- the rows in their order, on the array s that a card of the right length is
+abbrev from_29 : List ℕ → Verdict
+from_29 s = unless_refused (name_row (directory_of s)) (game_row (table_of s) (directory_of s))
+
+abbrev from_27 : List ℕ → Verdict
+from_27 s = unless_refused (chain_rows (table_of s) (directory_of s)) (from_29 s)
+
+abbrev from_26 : List ℕ → Verdict
+from_26 s = unless_refused (entry_row (directory_of s)) (from_27 s)
+
+-- 27 and 28 as one
+rows-26 : (table : List ℕ) (directory : List (List ℕ))
+    → directory_rows table directory ≡ unless_refused (entry_row directory) (unless_refused (chain_rows table directory) (unless_refused (name_row directory) (game_row table directory)))
+unfolding directory_rows
+rows-26 table directory = ap (unless_refused (entry_row directory)) (sym (rows-joined (chain_row table directory) (sharing_row table directory) _))
+
+right-length : (card : List ℕ) → length card ≡ card_length → unless_refused (table_rows (root_of card) (table_of card)) (directory_rows (table_of card) (directory_of card)) ≡ verdict_of card
+unfolding verdict_of length_row
+right-length card e = rw (eq-eqb (length card) card_length e)
+
+module _ {card s : List ℕ} (whole : IsWholeChunk card s 131072) where
+  pub from-21 : unless_refused (table_rows (root_of s) (table_of s)) (from_26 s) ≡ verdict_of card
+  unfolding card_length
+  from-21 =
+      ap (unless_refused (table_rows (root_of s) (table_of s))) (sym (rows-26 (table_of s) (directory_of s)))
+      ∙ right-length s (ap length whole.same ∙ whole.long)
+      ∙ ap verdict_of whole.same
+
+  module _ (t : done ≡ table_rows (root_of s) (table_of s)) where
+    pub from-26 : from_26 s ≡ verdict_of card
+    from-26 = passes _ _ from-21 t
+
+    module _ (e : done ≡ entry_row (directory_of s)) where
+      pub from-27 : from_27 s ≡ verdict_of card
+      from-27 = passes _ _ from-26 e
+
+      module _ (c : done ≡ chain_rows (table_of s) (directory_of s)) where
+        pub from-29 : from_29 s ≡ verdict_of card
+        from-29 = passes _ _ from-27 c
+
+        pub from-30 : done ≡ name_row (directory_of s) → game_row (table_of s) (directory_of s) ≡ verdict_of card
+        from-30 n = passes _ _ from-29 n
 
 -- ---- what a row tells once it is past
 
-module _ (directory : List (List ℕ)) {f : Verdict} (e : f ≡ entry_row directory) (z : f.number ≡ 0) where
+module _ (directory : List (List ℕ)) (e : done ≡ entry_row directory) where
   pub entries-right : (i : ℕ) → i < 208 → wrong_entry (entry_at directory i) ≡ false
   unfolding entry_row
-  entries-right = below-accepts 26 Entry _ 208 refl (ap accepted (sym e) ∙ eq-eqb f.number 0 z)
+  entries-right = below-accepts 26 Entry _ 208 refl (ap accepted (sym e))
 
-  pub chains-good : (table : List ℕ) {c : Verdict} → c ≡ chain_rows table directory → c.number ≡ 0 → GoodChains table directory
+  pub chains-good : (table : List ℕ) → done ≡ chain_rows table directory → GoodChains table directory
   unfolding chain_row
-  chains-good table {c} q y =
-      let a = unless-accepts (chain_row table directory) _ (ap accepted (sym q) ∙ eq-eqb c.number 0 y) in
+  chains-good table q =
+      let a = unless-accepts (chain_row table directory) _ (ap accepted (sym q)) in
       record { fields = entries-right; chains = below-accepts 27 Entry _ 208 refl a.0 }
-
--- ---- the rows in their order
-
-module _ (card : List ℕ) where
-  pub wrong-length : (length card ≡ card_length → ⊥) → refused_at 20 Whole ≡ verdict_of card
-  unfolding verdict_of length_row
-  wrong-length n = rw (ne_eqb (length card) card_length n)
-
-  -- from row 21 on
-  pub right-length : length card ≡ card_length → unless_refused (table_rows (root_of card) (table_of card)) (directory_rows (table_of card) (directory_of card)) ≡ verdict_of card
-  unfolding verdict_of length_row
-  right-length e = rw (eq-eqb (length card) card_length e)
-
--- from row 26 on, with 27 and 28 as one
-pub from-26 : (table : List ℕ) (directory : List (List ℕ))
-    → directory_rows table directory ≡ unless_refused (entry_row directory) (unless_refused (chain_rows table directory) (unless_refused (name_row directory) (game_row table directory)))
-unfolding directory_rows
-from-26 table directory = ap (unless_refused (entry_row directory)) (sym (rows-joined (chain_row table directory) (sharing_row table directory) _))

@@ -1,70 +1,54 @@
 #![tactic(auto)]
 
 // Opening a card: every call begins with it, and the rows 20 to 30 are put together here and nowhere else.
-ghost use Rattle.std.specs.Prelude.{◌≡◌, true, length};
-ghost use Rattle.verdicts.specs.Rows.{accepted};
-ghost use Rattle.card_model.specs.Layout.{card_length};
-ghost use Rattle.card_model.specs.Calls.{verdict_of};
-ghost use Rattle.card_chains.specs.Marks.{no_marks};
+ghost use Rattle.std.specs.Prelude.{◌≡◌, IfOk};
+ghost use Rattle.verdicts.specs.Rows.{result_verdict};
+ghost use Rattle.card_model.specs.Layout.{directory_of};
+ghost use Rattle.card_model.specs.Calls.{verdict_of, entry_named};
 ghost use Rattle.card_check.specs.Opening.{OpenCard};
 
 use card_chains::walk_files;
-use card_directory::used::{entry_row, list_used};
+use card_directory::search::find_named;
+use card_directory::used::{UsedEntries, entry_row, list_used};
 use card_games::game_row;
 use card_names::name_row;
-use card_table::{LENGTH, table_verdict};
-use verdicts::{Place, Verdict, refused_at};
+use card_model::LENGTH;
+use card_table::table_verdict;
+use verdicts::{CardError, Place, Rule};
 
-// The check's verdict and, where it accepts the card, how many entries are used.
-#[derive(Clone, Copy)]
-pub struct Opened {
-    pub verdict: Verdict,
-    pub count: usize,
+// A card that no row refuses, with its used entries listed and the blocks of its files marked.
+#[derive(Drop)]
+pub struct Opened<'a> {
+    pub card: &'a [u8; LENGTH],
+    pub used: UsedEntries,
+    pub marks: [u8; 200],
+    ghost is_open: { OpenCard card.now used marks },
 }
 
-fn not_opened(verdict: Verdict) -> Opened
-    ensures { (result.verdict ≡ verdict) × (result.count ≡ 0) }
+// Refusals 20 to 30. The length is tested before all that asks for it.
+pub fn open(card: &[u8]) -> Result<Opened<'_>, CardError>
+    ensures verdict { result_verdict result ≡ verdict_of card.now }
+    ensures opened { IfOk result (λ o. o.card.now ≡ card.now) }
 {
-    Opened { verdict, count: 0 }
+    let Ok(card) = <&[u8; LENGTH]>::try_from(card) else {
+        return Err(Rule::CardLength.at(Place::Whole));
+    };
+    table_verdict(card)?;
+    let used = list_used(card);
+    let entries = used.as_slice();
+    entry_row(card, entries)?;
+    let mut marks = [0u8; 200];
+    walk_files(card, entries, &mut marks)?;
+    name_row(card, entries)?;
+    game_row(card, entries)?;
+    Ok(Opened { card, used, marks })
 }
 
-// Refusals 21 to 30, of a card of the right length.
-fn open_right_length(card: &[u8], used: &mut [u8; 208], marks: &mut [u8; 200]) -> Opened
-    requires { (length card.now ≡ card_length) × (length used.old ≡ 208) × (marks.old ≡ no_marks) }
-    ensures verdict_value { result.verdict ≡ verdict_of card.now }
-    ensures open_card { accepted result.verdict ≡ true → OpenCard card.now used.new result.count marks.new }
-{
-    let of_table = table_verdict(card);
-    if of_table.number != 0 {
-        return not_opened(of_table);
+impl Opened<'_> {
+    // The entry of this name.
+    pub fn named(&self, name: &[u8]) -> Option<usize>
+        ensures { result ≡ entry_named (directory_of self.now.card.now) name.now }
+    {
+        find_named(self.card, self.used.as_slice(), name)
     }
-    let count = list_used(card, used);
-    let entries = entry_row(card, used, count);
-    if entries.number != 0 {
-        return not_opened(entries);
-    }
-    let chains = walk_files(card, used, count, marks);
-    if chains.number != 0 {
-        return not_opened(chains);
-    }
-    let names = name_row(card, used, count);
-    if names.number != 0 {
-        return not_opened(names);
-    }
-    Opened {
-        verdict: game_row(card, used, count),
-        count,
-    }
-}
-
-// Lists the used entries and marks the blocks of the files. The length is tested before all that asks for it.
-pub fn open(card: &[u8], used: &mut [u8; 208], marks: &mut [u8; 200]) -> Opened
-    requires { (length used.old ≡ 208) × (marks.old ≡ no_marks) }
-    ensures verdict_value { result.verdict ≡ verdict_of card.now }
-    ensures open_card { accepted result.verdict ≡ true → OpenCard card.now used.new result.count marks.new }
-{
-    if card.len() != LENGTH {
-        return not_opened(refused_at(20, Place::Whole));
-    }
-    open_right_length(card, used, marks)
 }
