@@ -1,14 +1,16 @@
 // The structs that C receives by value, and how they are made of the calls' answers. A C struct holds no enum.
-ghost use Rattle.std.specs.Prelude.{ℕ, ◌≡◌, List};
-ghost use Rattle.verdicts.specs.Rows.{place_number};
-ghost use Rattle.flash.specs.Answers.{report_answer, next_answer};
-ghost use Rattle.slots.specs.SlotAnswers.{slot_answer};
-ghost use Rattle.capi.specs.Structs.{report_of, next_live_of, slot_of, card_verdict_of, kind_of, protected_number};
+ghost use Rattle.std.specs.Prelude.{ℕ, ◌≡◌, List, []};
+ghost use Rattle.std.specs.declared.result.Result.TheVariants.{Ok};
+ghost use Rattle.verdicts.specs.Rows.{place_number, error_verdict, result_verdict};
+ghost use Rattle.flash.specs.Answers.{report_answer};
+ghost use Rattle.flash_model.specs.Errors.{error_number, result_code, number_answer};
+ghost use Rattle.card_model.specs.Results.{check_answer, list_answer};
+ghost use Rattle.capi.specs.Structs.{report_of, next_live_of, slot_of, card_check_of, card_entry_of, card_verdict_of, kind_of, protected_number};
 
-use card_model::CopyProtection;
-use flash::{LiveNumber, Summary};
-use slots::GivenSlot;
-use verdicts::{Place, Verdict};
+use card_model::{CopyProtection, ListedEntry};
+use flash::Counts;
+use flash_model::FlashError;
+use verdicts::{CardError, Place};
 
 #[repr(C)]
 #[derive(Clone, Copy)]
@@ -69,54 +71,74 @@ pub struct CardVerdictAnswer {
     pub place: u64,
 }
 
-pub fn report_of(summary: Summary) -> ReportAnswer
-    ensures { result ≡ report_of (report_answer summary) }
+// A refusal of a partition as C's number.
+fn flash_code(error: FlashError) -> u64
+    ensures { result ≡ error_number error }
 {
-    match summary {
-        Summary::Refused(refused) => ReportAnswer {
-            code: refused as u64,
+    u64::from(u8::from(error))
+}
+
+// The code of a call that hands back nothing else.
+pub fn code_of(answer: Result<(), FlashError>) -> u32
+    ensures { result ≡ result_code answer }
+{
+    match answer {
+        Ok(()) => 0,
+        Err(error) => u32::from(u8::from(error)),
+    }
+}
+
+#[tactic(auto, unfolding(crate::specs::Structs::report_of))]
+pub fn report_of(answer: Result<Counts, FlashError>) -> ReportAnswer
+    ensures { result ≡ report_of (report_answer answer) }
+{
+    match answer {
+        Ok(counts) => ReportAnswer {
+            code: 0,
+            version: u64::from(counts.version),
+            capacity: counts.capacity as u64,
+            used: counts.used as u64,
+            live: counts.live as u64,
+        },
+        Err(error) => ReportAnswer {
+            code: flash_code(error),
             version: 0,
             capacity: 0,
             used: 0,
             live: 0,
         },
-        Summary::Counted(counts) => ReportAnswer {
-            code: 0,
-            version: counts.version as u64,
-            capacity: counts.capacity as u64,
-            used: counts.used as u64,
-            live: counts.live as u64,
-        },
     }
 }
 
-pub fn next_live_of(next: LiveNumber) -> NextLiveAnswer
-    ensures { result ≡ next_live_of (next_answer next) }
+#[tactic(auto, unfolding(crate::specs::Structs::next_live_of))]
+pub fn next_live_of(answer: Result<usize, FlashError>) -> NextLiveAnswer
+    ensures { result ≡ next_live_of (number_answer answer []) }
 {
-    match next {
-        LiveNumber::Refused(refused) => NextLiveAnswer {
-            code: refused as u64,
-            number: 0,
-        },
-        LiveNumber::Hit(number) => NextLiveAnswer {
+    match answer {
+        Ok(number) => NextLiveAnswer {
             code: 0,
             number: number as u64,
+        },
+        Err(error) => NextLiveAnswer {
+            code: flash_code(error),
+            number: 0,
         },
     }
 }
 
 // The buffers that the call was lent play no part in what C receives.
-pub fn slot_of(found: GivenSlot) -> SlotAnswer
-    ensures { (lent : List (List ℕ)) → result ≡ slot_of (slot_answer found lent) }
+#[tactic(auto, unfolding(crate::specs::Structs::slot_of))]
+pub fn slot_of(answer: Result<usize, FlashError>) -> SlotAnswer
+    ensures { (lent : List (List ℕ)) → result ≡ slot_of (number_answer answer lent) }
 {
-    match found {
-        GivenSlot::Refused(refused) => SlotAnswer {
-            code: refused as u64,
-            slot: 0,
-        },
-        GivenSlot::Hit(slot) => SlotAnswer {
+    match answer {
+        Ok(slot) => SlotAnswer {
             code: 0,
             slot: slot as u64,
+        },
+        Err(error) => SlotAnswer {
+            code: flash_code(error),
+            slot: 0,
         },
     }
 }
@@ -141,7 +163,7 @@ fn place_number(place: Place) -> u64
     }
 }
 
-pub fn copy_protected(protection: CopyProtection) -> u64
+fn copy_protected(protection: CopyProtection) -> u64
     ensures { result ≡ protected_number protection }
 {
     match protection {
@@ -150,13 +172,100 @@ pub fn copy_protected(protection: CopyProtection) -> u64
     }
 }
 
-pub fn card_verdict_of(verdict: Verdict) -> CardVerdictAnswer
-    ensures { result ≡ card_verdict_of verdict }
+// Why a call on a card was refused, and where.
+#[tactic(auto, unfolding(crate::specs::Structs::card_verdict_of))]
+fn card_refusal(error: CardError) -> CardVerdictAnswer
+    ensures { result ≡ card_verdict_of (error_verdict error) }
 {
-    let place = verdict.place;
     CardVerdictAnswer {
-        code: verdict.number as u64,
-        place_kind: place_kind(place),
-        place: place_number(place),
+        code: u64::from(u8::from(error.rule)),
+        place_kind: place_kind(error.place),
+        place: place_number(error.place),
+    }
+}
+
+#[tactic(auto, unfolding(crate::specs::Structs::card_verdict_of))]
+pub fn card_verdict_of(answer: Result<(), CardError>) -> CardVerdictAnswer
+    ensures { result ≡ card_verdict_of (result_verdict answer) }
+{
+    match answer {
+        Ok(()) => CardVerdictAnswer {
+            code: 0,
+            place_kind: 0,
+            place: 0,
+        },
+        Err(error) => card_refusal(error),
+    }
+}
+
+#[tactic(auto, unfolding(crate::specs::Structs::card_check_of, crate::specs::Structs::card_verdict_of))]
+pub fn card_check_of(answer: Result<usize, CardError>) -> CardCheckAnswer
+    ensures { result ≡ card_check_of (check_answer answer) }
+{
+    match answer {
+        Ok(orphans) => CardCheckAnswer {
+            code: 0,
+            place_kind: 0,
+            place: 0,
+            orphans: orphans as u64,
+        },
+        Err(error) => {
+            let refused = card_refusal(error);
+            CardCheckAnswer {
+                code: refused.code,
+                place_kind: refused.place_kind,
+                place: refused.place,
+                orphans: 0,
+            }
+        }
+    }
+}
+
+// A listed entry under C's names.
+#[tactic(auto, unfolding(crate::specs::Structs::card_entry_of))]
+fn entry_of(listed: ListedEntry) -> CardEntryAnswer
+    ensures { result ≡ card_entry_of (list_answer (Ok listed)) }
+{
+    let name = listed.name;
+    let time = listed.time;
+    CardEntryAnswer {
+        code: 0,
+        place_kind: 0,
+        place: 0,
+        entry: listed.entry as u64,
+        kind: u64::from(listed.kind),
+        flag: u64::from(listed.flag),
+        copy_protected: copy_protected(listed.protection),
+        first: listed.first as u64,
+        size: listed.size as u64,
+        offset: listed.offset as u64,
+        name,
+        time,
+    }
+}
+
+#[tactic(auto, unfolding(crate::specs::Structs::card_entry_of, crate::specs::Structs::card_verdict_of))]
+pub fn card_entry_of(answer: Result<ListedEntry, CardError>) -> CardEntryAnswer
+    ensures { result ≡ card_entry_of (list_answer answer) }
+{
+    match answer {
+        Ok(listed) => entry_of(listed),
+        Err(error) => {
+            let refused = card_refusal(error);
+            CardEntryAnswer {
+                code: refused.code,
+                place_kind: refused.place_kind,
+                place: refused.place,
+                entry: 0,
+                kind: 0,
+                flag: 0,
+                copy_protected: 0,
+                first: 0,
+                size: 0,
+                offset: 0,
+                name: [0; 12],
+                time: [0; 8],
+            }
+        }
     }
 }

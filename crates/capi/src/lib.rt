@@ -16,7 +16,7 @@ ghost use Rattle.capi.specs.Structs.{report_of, next_live_of, slot_of, card_chec
 
 use answers::{
     CardCheckAnswer, CardEntryAnswer, CardVerdictAnswer, NextLiveAnswer, ReportAnswer, SlotAnswer,
-    card_verdict_of, copy_protected, next_live_of, report_of, slot_of,
+    card_check_of, card_entry_of, card_verdict_of, code_of, next_live_of, report_of, slot_of,
 };
 use card::DataNumbers;
 use slots::DataBlock;
@@ -34,7 +34,7 @@ pub extern "C" fn galtuyeg_version() -> u32
 pub extern "C" fn galtuyeg_flash_check(image: &[u8], partition: u8) -> u32
     ensures { Answered image.now (on_whole (check partition)) image.now (code_answer result []) }
 {
-    flash::check(image, partition) as u32
+    code_of(flash::check(image, partition))
 }
 
 #[unsafe(no_mangle)]
@@ -60,7 +60,7 @@ pub extern "C" fn galtuyeg_flash_read(
 ) -> u32
     ensures { Answered image.now (on_page (read partition number page.old)) image.now (code_answer result (page.new ∷ [])) }
 {
-    flash::read(image, partition, number as usize, page) as u32
+    code_of(flash::read(image, partition, number as usize, page))
 }
 
 #[unsafe(no_mangle)]
@@ -73,14 +73,15 @@ pub extern "C" fn galtuyeg_flash_save(
 ) -> u32
     ensures { Answered image.old (on_page (save partition number expected.now page.now)) image.new (code_answer result (expected.now ∷ page.now ∷ [])) }
 {
-    flash::save(image, partition, number as usize, expected, page) as u32
+    let saved = flash::save(image, partition, number as usize, expected, page);
+    code_of(saved)
 }
 
 #[unsafe(no_mangle)]
 pub extern "C" fn galtuyeg_flash_erase(image: &mut [u8], partition: u8) -> u32
     ensures { Answered image.old (on_whole (erase partition)) image.new (code_answer result []) }
 {
-    flash::erase(image, partition) as u32
+    code_of(flash::erase(image, partition))
 }
 
 #[unsafe(no_mangle)]
@@ -124,7 +125,7 @@ pub extern "C" fn galtuyeg_slot_read(
         slot: slot as usize,
         block: block as usize,
     };
-    slots::read(image, partition, at, page) as u32
+    code_of(slots::read(image, partition, at, page))
 }
 
 #[unsafe(no_mangle)]
@@ -142,46 +143,21 @@ pub extern "C" fn galtuyeg_slot_save(
         slot: slot as usize,
         block: block as usize,
     };
-    slots::save(image, partition, at, expected, page) as u32
+    code_of(slots::save(image, partition, at, expected, page))
 }
 
 #[unsafe(no_mangle)]
 pub extern "C" fn galtuyeg_card_check(card: &[u8]) -> CardCheckAnswer
     ensures { result ≡ card_check_of (check_of card.now) }
 {
-    let checked = card::check(card);
-    let verdict = card_verdict_of(checked.verdict);
-    CardCheckAnswer {
-        code: verdict.code,
-        place_kind: verdict.place_kind,
-        place: verdict.place,
-        orphans: checked.orphans as u64,
-    }
+    card_check_of(card::check(card))
 }
 
 #[unsafe(no_mangle)]
 pub extern "C" fn galtuyeg_card_list(card: &[u8], from: u64) -> CardEntryAnswer
     ensures { result ≡ card_entry_of (list_of card.now from) }
 {
-    let listing = card::list(card, from as usize);
-    let verdict = card_verdict_of(listing.verdict);
-    let protection = listing.protection;
-    let name = listing.name;
-    let time = listing.time;
-    CardEntryAnswer {
-        code: verdict.code,
-        place_kind: verdict.place_kind,
-        place: verdict.place,
-        entry: listing.entry as u64,
-        kind: listing.kind as u64,
-        flag: listing.flag as u64,
-        copy_protected: copy_protected(protection),
-        first: listing.first as u64,
-        size: listing.size as u64,
-        offset: listing.offset as u64,
-        name,
-        time,
-    }
+    card_entry_of(card::list(card, from as usize))
 }
 
 #[unsafe(no_mangle)]

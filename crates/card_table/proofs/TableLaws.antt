@@ -4,16 +4,14 @@ use mathlib.Core.Path.{◌≡◌, sym, ap, ◌∙◌}
 use mathlib.Core.Bool.{Bool, true, false, not}
 use lib.Dec.{eqb}
 use lib.Pointwise.{pointwise}
-use mathlib.Core.List.{List, map}
+use mathlib.Core.List.{List}
 use Rattle.std.specs.Prelude.{None, Some}
 use native.Mathlib.Omega.{arith}
 use native.Mathlib.Decide.{ℕ_discrete}
-use lib.ListN.{replicate, length, get_or, take, drop, length-map}
-use lib.Seq.{get_or-take, get_or-drop, ext_get_or}
-use Rattle.words.specs.Lists.{numbers_from}
+use lib.ListN.{replicate, take, drop}
+use lib.Seq.{get_or-take, get_or-drop}
 use Rattle.words.specs.Search.{lowest}
 use Rattle.words.specs.Words.{word}
-use Rattle.words.proofs.PartsLaws.{numbers-length}
 use Rattle.words.proofs.SameLaws.{pointwise-same}
 use Rattle.words.proofs.SearchLaws.{lowest-is, lowest-nothing}
 use Rattle.verdicts.specs.declared.Place.TheVariants.{Block}
@@ -32,14 +30,6 @@ entry_word card b at h e =
     let z : at + 0 ≡ at = omega arith in
     rw (get_or-take 2 (drop at card) 0 0 (omega arith), get_or-take 2 (drop at card) (0 + 1) 0 (omega arith), get_or-drop at card 0 0, get_or-drop at card (0 + 1) 0, z)
     (ap (word card) e ∙ sym (fat-is card b h))
-
--- a list of 256 numbers is the table where each is an entry of it
-pub table-is : (card table : List ℕ) → length table ≡ 256 → ((b : ℕ) → b < 256 → get_or table b 0 ≡ fat_entry (table_of card) b) → table ≡ table_of card
-unfolding fat_entry table_of
-table-is card table n h =
-    let entries = map (λ b. word card (fat_place b)) (numbers_from 0 256) in
-    let m : length entries ≡ 256 = length-map (numbers_from 0 256) (λ b. word card (fat_place b)) ∙ numbers-length 0 256 in
-    ext_get_or 0 table entries (n ∙ sym m) (λ b k. h b (omega (arith, n)))
 
 -- the blocks of a range that the tests of a row pass
 abbrev pub NoneWrong : (ℕ → Bool) → ℕ → ℕ → Type 0

@@ -35,17 +35,6 @@ pub fn fat_entry(card: &[u8; LENGTH], b: usize) -> usize
     word(&card[at..at + 2], 0)
 }
 
-// The whole table, each number in its two bytes.
-pub fn read_table(card: &[u8; LENGTH]) -> [u16; 256]
-    ensures { result ≡ table_of card.now }
-{
-    let mut table = [0u16; 256];
-    for (b, entry) in table.iter_mut().enumerate() {
-        *entry = fat_entry(card, b) as u16;
-    }
-    table
-}
-
 // The class of a table entry.
 #[tactic(auto, unfolding(card_model::specs::Table::link_of))]
 pub fn classify(e: usize) -> Link
