@@ -8,6 +8,7 @@ use mathlib.Core.Logic.{◌≢◌, ◌⊎◌, inl, inr}
 use native.Mathlib.Omega.{arith}
 use native.Mathlib.Decide.{ℕ_discrete}
 use lib.Dec.{eqb, ltb, leb}
+use Rattle.std.specs.Bool.{then_some}
 use borrow.Author.Tests.{ne_eqb, eq-eqb, ltb-true, ltb-false, leb-true, leb-false, lt-ltb, le-ltb, lt-leb, le-leb}
 use Rattle.words.specs.Search.{highest}
 use Rattle.words.proofs.Bools.{or-true-either, or-false-left, or-false-right}
@@ -137,33 +138,27 @@ module _ {image : List ℕ} {log : OpenedLog} (u : Usable image log) (end : ℕ)
           let z : ◌≡◌ {A = ℕ} 0 1 = cc in
           omega arith
 
-  -- the start is past the top
-  pub next_past : (start : ℕ) → end ≤ start → None ≡ lowest_live image start
-  next_past start h = (sym (live-none image start (λ n a c. absurd (omega (arith, a, c, h, e, ap capacity u.has_size)))))
+  -- the best is the answer, where none lower has contents
+  module _ (start k best : ℕ) (f : k ≤ log.used + 1) (b : BestSoFar image start end k best) where
+    answered : ((n : ℕ) → start ≤ n → n < best → contents image n ≡ None) → then_some (ltb best end) best ≡ lowest_live image start
+    answered none-lower = go (ltb best end) refl
+      where
+        go : (t : Bool) → ltb best end ≡ t → then_some t best ≡ lowest_live image start
+        go true q =
+            let h = ltb-true best end q in
+            sym ((next_live_lem image start best u.is_sound).1 (record {
+              not_below = b.not_below h;
+              is_live_lem = has-contents k best f h (b.is_seen h);
+              none_between = λ n a c. none-lower n a c;
+            }))
+        go false q =
+            let h = ltb-false best end q in
+            sym (live-none image start (λ n a c. none-lower n a (omega (arith, c, h, e, ap capacity u.has_size))))
 
-  -- the start itself is found
-  pub next_start : (start k best : ℕ) → start < end → k ≤ log.used + 1 → best ≡ start → BestSoFar image start end k best
-      → Some start ≡ lowest_live image start
-  next_start start k best h f q b =
-      (sym ((next_live_lem image start start u.is_sound).1 (record {
-        not_below = omega arith;
-        is_live_lem = has-contents k start f h (rw q at (b.is_seen (omega (arith, q, h))));
-        none_between = λ n a c. absurd (omega (arith, a, c));
-      })))
+    -- no number between is left
+    pub start-found : best ≤ start → then_some (ltb best end) best ≡ lowest_live image start
+    start-found h = answered (λ n a c. absurd (omega arith))
 
-  -- all used blocks are passed
-  module _ (start k best : ℕ) (f : k ≡ log.used + 1) (b : BestSoFar image start end k best) where
-    lower-none : (n : ℕ) → start ≤ n → n < best → contents image n ≡ None
-    lower-none n a c = no-contents n (omega (arith, c, b.bound)) (λ j lo hi. b.none_lower n j a c lo (omega (arith, hi, f)))
-
-    pub next_is : best < end → Some best ≡ lowest_live image start
-    next_is h =
-        (sym ((next_live_lem image start best u.is_sound).1 (record {
-          not_below = b.not_below h;
-          is_live_lem = has-contents k best (omega arith) h (b.is_seen h);
-          none_between = λ n a c. lower-none n a c;
-        })))
-
-    pub next-none : end ≤ best → None ≡ lowest_live image start
-    next-none h =
-        (sym (live-none image start (λ n a c. lower-none n a (omega (arith, c, h, e, ap capacity u.has_size)))))
+    -- no used block is left
+    pub all-passed : log.used + 1 ≤ k → then_some (ltb best end) best ≡ lowest_live image start
+    all-passed h = answered (λ n a c. no-contents n (omega (arith, c, b.bound)) (λ j lo hi. b.none_lower n j a c lo (omega (arith, hi, h))))

@@ -66,10 +66,10 @@ fn mark_run<const LISTED: bool>(
     kept: &mut [u16],
     reached: Progress,
 ) -> Progress
-    requires pass_at { (0 < reached.at) × PassAt marks.old p reached.at }
+    requires pass_at { PassAt marks.old p reached.at }
     requires bound { reached.count + reached.at ≤ p.log.used }
     requires room { LISTED ≡ true → capacity p.log.m.size ≤ length kept.old }
-    ensures lower { result.at < reached.at }
+    ensures lower { 0 < reached.at → result.at < reached.at }
     ensures passed { Passed LISTED p.entry marks.old kept.old reached marks.new kept.new result }
 {
     let end = p.log.m.capacity();
@@ -99,10 +99,13 @@ fn pass<const LISTED: bool>(p: Partition<'_>, marks: &mut [u8], kept: &mut [u16]
         at: p.log.used,
         count: 0,
     };
-    while let Some(at) = next_new(p, &marks[..], reached.at) {
-        reached = mark_run::<LISTED>(p, marks, kept, Progress { at, ..reached });
+    loop {
+        reached = mark_run::<LISTED>(p, marks, kept, reached);
+        let Some(at) = next_new(p, &marks[..], reached.at) else {
+            return reached.count;
+        };
+        reached.at = at;
     }
-    reached.count
 }
 
 // How many numbers have contents.
@@ -138,23 +141,18 @@ fn lower(part: &[u8; 64], start: usize, best: usize) -> usize
     best
 }
 
-// The lowest live number not below the start. None is lower than the start itself, so the pass ends where that is found.
+// The lowest live number not below the start. None is lower than the start itself, so the pass ends where that is found. `best` is the
+// number below which others are still looked for: an Option in its place took up to twice as long.
 pub fn next_number(p: Partition<'_>, start: usize) -> Option<usize>
     ensures { result ≡ lowest_live p.entry.image.now start }
 {
     let end = p.log.m.capacity();
-    if end <= start {
-        return None;
-    }
-    let used = p.log.used;
     let mut best = end;
-    let mut k: usize = 1;
-    while k <= used {
+    for k in 1..p.log.used + 1 {
         best = lower(p.block(k), start, best);
-        if best == start {
-            return Some(start);
+        if best <= start {
+            break;
         }
-        k += 1;
     }
-    if best < end { Some(best) } else { None }
+    (best < end).then_some(best)
 }

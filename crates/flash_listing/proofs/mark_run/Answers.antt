@@ -10,7 +10,7 @@ use Rattle.flash_listing.proofs.mark_run.Goals.{then-this-ne0, else-this-ne0}
 pub loop-k-init : goal.loop-k-init
 loop-k-init g c =
     let e : c.args.reached.at + 1 - 1 ≡ c.args.reached.at = omega arith in
-    rw e (passed-start c.args.marks.now c.args.kept.now c.args.reached c.requires.pass_at.1)
+    rw e (passed-start c.args.marks.now c.args.kept.now c.args.reached c.requires.pass_at)
 
 pub returns-then-not-is_new-clause-passed : goal.returns-then-not-is_new-clause-passed
 returns-then-not-is_new-clause-passed g c =

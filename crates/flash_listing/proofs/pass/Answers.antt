@@ -7,10 +7,10 @@ pub loop-at-init : goal.loop-at-init
 loop-at-init g c = passed-start c.args.marks.now c.args.kept.now (whole c.args.p) (pass-first c.args.marks.now c.args.p c.requires.long)
 
 pub next_new-requires : goal.next_new-requires
-next_new-requires g c = c.loop-at.invariant.pass_at
+next_new-requires g c = c.mark_run-reached.ensures.passed.pass_at
 
 pub loop-at-preserved : goal.loop-at-preserved
-loop-at-preserved g c = passed-then (passed-known c.loop-at.invariant c.in-Some.ensures.passed) c.mark_run-reached.ensures.passed
+loop-at-preserved g c = passed-known (passed-then c.loop-at.invariant c.mark_run-reached.ensures.passed) c.in-Some.ensures.passed
 
-pub returns : goal.returns
-returns g c = passed-known c.loop-at.invariant c.in_default.ensures
+pub returns-in_default : goal.returns-in_default
+returns-in_default g c = passed-known (passed-then c.loop-at.invariant c.mark_run-reached.ensures.passed) c.in_default.ensures
