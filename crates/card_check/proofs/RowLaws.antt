@@ -3,15 +3,12 @@ use Prim.Native.Nat.{ℕ, ◌<◌}
 use mathlib.Core.Path.{◌≡◌, refl, sym, ap, ◌∙◌}
 use mathlib.Core.Bool.{false}
 use mathlib.Core.List.{List}
+use mathlib.Core.Logic.{◌≢◌}
 use borrow.Author.Tests.{eq-eqb, ne_eqb}
 use lib.ListN.{length}
-use Rattle.std.specs.Array.{IsWholeChunk}
-use Rattle.std.specs.Result.{IsErrAnd}
-use Rattle.std.specs.declared.result.Result.{Result}
-use Rattle.std.proofs.lemmas.Result.{err_from_is_err_and}
 use Rattle.verdicts.specs.declared.Place.TheVariants.{Whole, Entry}
 use Rattle.verdicts.specs.declared.CardError.{CardError}
-use Rattle.verdicts.specs.Rows.{Verdict, done, refused_at, accepted, unless_refused, error_verdict, result_verdict}
+use Rattle.verdicts.specs.Rows.{Verdict, done, refused_at, accepted, unless_refused, error_verdict}
 use Rattle.verdicts.proofs.RowLaws.{error_first, passed_first, rows-joined}
 use Rattle.card_model.specs.Layout.{card_length, root_of, table_of, directory_of}
 use Rattle.card_model.specs.Entries.{wrong_entry, entry_at, entry_row, name_row}
@@ -21,25 +18,19 @@ use Rattle.card_model.proofs.SoundLaws.{unless-accepts, below-accepts}
 use Rattle.card_games.specs.Rules.{GoodChains}
 use Rattle.card_chains.specs.Rows.{chain_rows}
 
--- what `?` hands on of a row's refusal
-pub handed_on : {A : Type 0} (r : Result A CardError) (e : CardError) → IsErrAnd r (λ y. y ≡ e) → {v : Verdict} → error_verdict e ≡ v → result_verdict r ≡ v
-handed_on r e h q =
-    let p = err_from_is_err_and r h in
-    rw (p.1, p.2) q
-
--- where row v and those behind it decide: v's refusal, handed on by `?`, is the verdict, and else the later rows are
+-- where row v and those behind it decide: v's refusal is the verdict, and else the later rows are
 module _ (v later : Verdict) {whole : Verdict} (from : unless_refused v later ≡ whole) where
-  pub refuses : {A : Type 0} (r : Result A CardError) (e : CardError) → error_verdict e ≡ v → IsErrAnd r (λ y. y ≡ e) → result_verdict r ≡ whole
-  refuses r e q h = handed_on r e h (sym (error_first e v later q) ∙ from)
+  refuses : (e : CardError) → error_verdict e ≡ v → error_verdict e ≡ whole
+  refuses e q = sym (error_first e v later q) ∙ from
 
-  pub passes : done ≡ v → later ≡ whole
+  passes : done ≡ v → later ≡ whole
   passes q = sym (passed_first v later q) ∙ from
 
-pub wrong-length : (card : List ℕ) → (length card ≡ card_length → ⊥) → refused_at 20 Whole ≡ verdict_of card
+pub wrong-length : (card : List ℕ) → length card ≢ card_length → refused_at 20 Whole ≡ verdict_of card
 unfolding verdict_of length_row
 wrong-length card n = rw (ne_eqb (length card) card_length n)
 
--- the rows in their order, on the array s that a card of the right length is
+-- ---- the rows in their order, on a card of the right length
 abbrev from_29 : List ℕ → Verdict
 from_29 s = unless_refused (name_row (directory_of s)) (game_row (table_of s) (directory_of s))
 
@@ -59,28 +50,39 @@ right-length : (card : List ℕ) → length card ≡ card_length → unless_refu
 unfolding verdict_of length_row
 right-length card e = rw (eq-eqb (length card) card_length e)
 
-module _ {card s : List ℕ} (whole : IsWholeChunk card s 131072) where
-  pub from-21 : unless_refused (table_rows (root_of s) (table_of s)) (from_26 s) ≡ verdict_of card
+module _ (s : List ℕ) (long : length s ≡ 131072) where
+  from-21 : unless_refused (table_rows (root_of s) (table_of s)) (from_26 s) ≡ verdict_of s
   unfolding card_length
   from-21 =
-      ap (unless_refused (table_rows (root_of s) (table_of s))) (sym (rows-26 (table_of s) (directory_of s)))
-      ∙ right-length s (ap length whole.same ∙ whole.long)
-      ∙ ap verdict_of whole.same
+      ap (unless_refused (table_rows (root_of s) (table_of s))) (sym (rows-26 (table_of s) (directory_of s))) ∙ right-length s long
+
+  pub by_table : (e : CardError) → error_verdict e ≡ table_rows (root_of s) (table_of s) → error_verdict e ≡ verdict_of s
+  by_table = refuses _ _ from-21
 
   module _ (t : done ≡ table_rows (root_of s) (table_of s)) where
-    pub from-26 : from_26 s ≡ verdict_of card
+    from-26 : from_26 s ≡ verdict_of s
     from-26 = passes _ _ from-21 t
 
-    module _ (e : done ≡ entry_row (directory_of s)) where
-      pub from-27 : from_27 s ≡ verdict_of card
-      from-27 = passes _ _ from-26 e
+    pub by_26 : (e : CardError) → error_verdict e ≡ entry_row (directory_of s) → error_verdict e ≡ verdict_of s
+    by_26 = refuses _ _ from-26
+
+    module _ (p : done ≡ entry_row (directory_of s)) where
+      from-27 : from_27 s ≡ verdict_of s
+      from-27 = passes _ _ from-26 p
+
+      pub by_chains : (e : CardError) → error_verdict e ≡ chain_rows (table_of s) (directory_of s) → error_verdict e ≡ verdict_of s
+      by_chains = refuses _ _ from-27
 
       module _ (c : done ≡ chain_rows (table_of s) (directory_of s)) where
-        pub from-29 : from_29 s ≡ verdict_of card
+        from-29 : from_29 s ≡ verdict_of s
         from-29 = passes _ _ from-27 c
 
-        pub from-30 : done ≡ name_row (directory_of s) → game_row (table_of s) (directory_of s) ≡ verdict_of card
-        from-30 n = passes _ _ from-29 n
+        pub by_29 : (e : CardError) → error_verdict e ≡ name_row (directory_of s) → error_verdict e ≡ verdict_of s
+        by_29 = refuses _ _ from-29
+
+        module _ (n : done ≡ name_row (directory_of s)) where
+          pub by_30 : (v : Verdict) → v ≡ game_row (table_of s) (directory_of s) → v ≡ verdict_of s
+          by_30 v q = q ∙ passes _ _ from-29 n
 
 -- ---- what a row tells once it is past
 

@@ -25,14 +25,12 @@ pub struct Opened<'a> {
     ghost is_open: { OpenCard card.now used marks },
 }
 
-// Refusals 20 to 30. The length is tested before all that asks for it.
-pub fn open(card: &[u8]) -> Result<Opened<'_>, CardError>
+// Refusals 21 to 30, of a card of the right length.
+#[tactic(auto, using(crate::proofs::RowLaws::by_table, crate::proofs::RowLaws::by_26, crate::proofs::RowLaws::by_chains, crate::proofs::RowLaws::by_29, crate::proofs::RowLaws::by_30))]
+fn open_right_length(card: &[u8; LENGTH]) -> Result<Opened<'_>, CardError>
     ensures verdict { result_verdict result ≡ verdict_of card.now }
     ensures opened { IfOk result (λ o. o.card.now ≡ card.now) }
 {
-    let Ok(card) = <&[u8; LENGTH]>::try_from(card) else {
-        return Err(Rule::CardLength.at(Place::Whole));
-    };
     table_verdict(card)?;
     let used = list_used(card);
     let entries = used.as_slice();
@@ -42,6 +40,17 @@ pub fn open(card: &[u8]) -> Result<Opened<'_>, CardError>
     name_row(card, entries)?;
     game_row(card, entries)?;
     Ok(Opened { card, used, marks })
+}
+
+// Refusals 20 to 30. The length is tested before all that asks for it.
+pub fn open(card: &[u8]) -> Result<Opened<'_>, CardError>
+    ensures verdict { result_verdict result ≡ verdict_of card.now }
+    ensures opened { IfOk result (λ o. o.card.now ≡ card.now) }
+{
+    match <&[u8; LENGTH]>::try_from(card) {
+        Ok(card) => open_right_length(card),
+        Err(_) => Err(Rule::CardLength.at(Place::Whole)),
+    }
 }
 
 impl Opened<'_> {
