@@ -12,11 +12,14 @@ use Rattle.verdicts.specs.Rows.{Verdict, done, refused_at, accepted, unless_refu
 use Rattle.verdicts.proofs.RowLaws.{error_first, passed_first, rows-joined}
 use Rattle.card_model.specs.Layout.{card_length, root_of, table_of, directory_of}
 use Rattle.card_model.specs.Entries.{wrong_entry, entry_at, entry_row, name_row}
-use Rattle.card_model.specs.Files.{chain_row, sharing_row, game_row}
+use Rattle.card_model.specs.Files.{files_before, chain_row, sharing_row, game_row}
 use Rattle.card_model.specs.Calls.{length_row, table_rows, directory_rows, verdict_of}
-use Rattle.card_model.proofs.SoundLaws.{unless-accepts, below-accepts}
+use Rattle.card_model.proofs.SoundLaws.{unless-accepts, below-accepts, accepted-rows}
+use Rattle.card_directory.specs.Listed.{Listed}
 use Rattle.card_games.specs.Rules.{GoodChains}
+use Rattle.card_chains.specs.Marks.{MarkedFiles}
 use Rattle.card_chains.specs.Rows.{chain_rows}
+use Rattle.card_check.specs.Opening.{OpenCard}
 
 -- where row v and those behind it decide: v's refusal is the verdict, and else the later rows are
 module _ (v later : Verdict) {whole : Verdict} (from : unless_refused v later ≡ whole) where
@@ -87,12 +90,20 @@ module _ (s : List ℕ) (long : length s ≡ 131072) where
 -- ---- what a row tells once it is past
 
 module _ (directory : List (List ℕ)) (e : done ≡ entry_row directory) where
-  pub entries-right : (i : ℕ) → i < 208 → wrong_entry (entry_at directory i) ≡ false
+  pub entries_right : (i : ℕ) → i < 208 → wrong_entry (entry_at directory i) ≡ false
   unfolding entry_row
-  entries-right = below-accepts 26 Entry _ 208 refl (ap accepted (sym e))
+  entries_right = below-accepts 26 Entry _ 208 refl (ap accepted (sym e))
 
-  pub chains-good : (table : List ℕ) → done ≡ chain_rows table directory → GoodChains table directory
+  pub chains_good : (table : List ℕ) → done ≡ chain_rows table directory → GoodChains table directory
   unfolding chain_row
-  chains-good table q =
+  chains_good table q =
       let a = unless-accepts (chain_row table directory) _ (ap accepted (sym q)) in
-      record { fields = entries-right; chains = below-accepts 27 Entry _ 208 refl a.0 }
+      record { fields = entries_right; chains = below-accepts 27 Entry _ 208 refl a.0 }
+
+-- the slice that is handed on is the list
+pub listed_slice : (directory : List (List ℕ)) (used slice : List ℕ) → slice ≡ used → Listed directory 208 used (length used) → Listed directory 208 slice (length slice)
+listed_slice directory used slice e l = rw e l
+
+pub open_card : (s used marks : List ℕ) → done ≡ verdict_of s → Listed (directory_of s) 208 used (length used)
+    → MarkedFiles (table_of s) (files_before (table_of s) (directory_of s) 208) marks → OpenCard s used marks
+open_card s used marks v l m = record { rows = accepted-rows s (ap accepted (sym v)); listed = l; marked = m }

@@ -26,7 +26,7 @@ pub struct Opened<'a> {
 }
 
 // Refusals 21 to 30, of a card of the right length.
-#[tactic(auto, using(crate::proofs::RowLaws::by_table, crate::proofs::RowLaws::by_26, crate::proofs::RowLaws::by_chains, crate::proofs::RowLaws::by_29, crate::proofs::RowLaws::by_30))]
+#[tactic(auto, using(crate::proofs::RowLaws::by_table, crate::proofs::RowLaws::by_26, crate::proofs::RowLaws::by_chains, crate::proofs::RowLaws::by_29, crate::proofs::RowLaws::by_30, crate::proofs::RowLaws::entries_right, crate::proofs::RowLaws::chains_good, crate::proofs::RowLaws::listed_slice, crate::proofs::RowLaws::open_card))]
 fn open_right_length(card: &[u8; LENGTH]) -> Result<Opened<'_>, CardError>
     ensures verdict { result_verdict result ≡ verdict_of card.now }
     ensures opened { IfOk result (λ o. o.card.now ≡ card.now) }
