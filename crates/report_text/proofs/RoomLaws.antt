@@ -1,10 +1,9 @@
 -- The text of a report has room in the buffer. Assumes nothing.
-use Prim.Native.Nat.{ℕ, suc, ◌+◌, ◌*◌, ◌/◌, ◌%◌, ◌≤◌, ◌<◌}
-use mathlib.Core.Path.{◌≡◌, refl, ap, ◌∙◌}
+use Prim.Native.Nat.{ℕ, suc, ◌+◌, ◌*◌, ◌≤◌, ◌<◌}
+use mathlib.Core.Path.{◌≡◌, refl}
 use mathlib.Core.Bool.{Bool, true, false, cond}
 use mathlib.Core.List.{List, [], ◌∷◌, ◌++◌, map}
 use native.Mathlib.Omega.{arith}
-use native.Mathlib.Decide.{dec_lt}
 use lib.Dec.{eqb}
 use lib.ListN.{length, length-append}
 use borrow.Author.Tests.{eqb-true}
@@ -17,23 +16,14 @@ use Rattle.flash_model.proofs.MeasureLaws.{capacity-most}
 use Rattle.flash_model.proofs.RefusalLaws.{refusal-most}
 use Rattle.flash_model.proofs.MeaningLaws.{meanings}
 use Rattle.flash_model.proofs.SoundLaws.{unrefused-sound}
-use Rattle.report_text.specs.Text.{digit, decimal, line, refused_word, partition_word, version_word, user_word, used_word, live_word, block_word, end_line, head_lines, block_lines, text_for}
-use Rattle.report_text.proofs.DecimalLaws.{decimal_digit, decimal_step}
+use Rattle.report_text.specs.Text.{decimal, line, refused_word, partition_word, version_word, user_word, used_word, live_word, block_word, end_line, head_lines, block_lines, text_for}
+use Rattle.std.proofs.lemmas.Fmt.{length-decimal-le}
+use Rattle.report_text.proofs.DecimalLaws.{decimal_printed}
 
 -- ---- numbers below 10,000 have four digits at most
 
-longer : (b k : ℕ) → ((m : ℕ) → m < b → length (decimal m) ≤ k) → (n : ℕ) → n < 10 * b → length (decimal n) ≤ suc k
-longer b k shorter n h = go (dec_lt n 10)
-  where
-    go : Dec (n < 10) → length (decimal n) ≤ suc k
-    go (yes l) = rw (decimal_digit n l) (omega arith)
-    go (no l) =
-        let s = shorter (n / 10) (omega (arith, h)) in
-        let e : length (decimal n) ≡ length (decimal (n / 10)) + 1 = ap length (decimal_step n (omega (arith, l))) ∙ length-append (decimal (n / 10)) (digit (n % 10) ∷ []) in
-        omega (arith, e, s)
-
 four-digits : (n : ℕ) → n < 10000 → length (decimal n) ≤ 4
-four-digits = longer 1000 3 (longer 100 2 (longer 10 1 λ n h. rw (decimal_digit n h) (omega arith)))
+four-digits n h = rw (decimal_printed n (omega arith)) (length-decimal-le 4 n (omega arith) h (omega arith))
 
 pub line-short : (label : List ℕ) (n : ℕ) → n < 10000 → length (line label n) ≤ length label + 6
 unfolding line

@@ -18,7 +18,7 @@ use Rattle.flash_model.proofs.ErrorLaws.{error-refuses}
 use Rattle.flash.specs.Answers.{report_answer}
 use Rattle.flash.specs.declared.Counts.{Counts}
 use Rattle.report_text.specs.Text.{line, refused_word, end_line, partition_for, head_lines, block_lines, text_for, report_text}
-use Rattle.report_text.proofs.RoomLaws.{text-short}
+use Rattle.report_text.proofs.RoomLaws.{line-short, text-short}
 
 -- ---- the room
 
@@ -67,3 +67,8 @@ pub long_text : (image : List ℕ) → 65536 < length image → report_text imag
 unfolding report_text text_for refusal length_row legal_size sizes
 long_text image h =
     rw (ne_eqb (length image) 16384 (λ e. omega (arith, e, h)), ne_eqb (length image) 32768 (λ e. omega (arith, e, h)), ne_eqb (length image) 65536 (λ e. omega (arith, e, h))) refl
+
+pub long_fits : length (line refused_word 1) ≤ 12288
+long_fits = omega (arith, line-short refused_word 1 (omega arith))
+
+pub ruleset too_long = (long_text, long_fits)

@@ -70,6 +70,7 @@ pub fn write_report(image: &[u8]) -> Text
 }
 
 // The same for any image longer than every partition, without being lent the image.
+#[tactic(auto, using(crate::proofs::TextLaws::too_long))]
 pub fn write_too_long() -> Text
     ensures value { result ≡ line refused_word 1 }
     ensures by_index { (image : List ℕ) → 65536 < length image → report_text image ≡ line refused_word 1 }

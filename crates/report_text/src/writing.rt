@@ -4,8 +4,8 @@ ghost use Rattle.report_text.specs.Text.{decimal, line};
 
 use crate::Text;
 
-// A number's decimal digits.
-#[tactic(auto, using(crate::proofs::DecimalLaws::digits))]
+// A number's decimal digits. They are put by hand since what std writes into fixed memory may be refused or cut, by its contracts.
+#[tactic(auto, using(crate::proofs::DecimalLaws::digit_by_digit))]
 fn put_decimal(text: &mut Text, n: usize)
     requires { length text.old + length (decimal n) ≤ 12288 }
     ensures { text.new ≡ text.old ++ decimal n }
