@@ -1,9 +1,9 @@
--- What is read never passes the buffer's end, and the buffer keeps its length.
-use Rattle.std.proofs.Common.{◌≡◌, ◌≤◌, ◌-◌, length}
+-- What is read never passes the buffer's end.
+use Rattle.std.proofs.Common.{◌≤◌, ◌-◌, length}
 use Rattle.report.proofs.read_image.Given as goal
 
 abbrev pub invariant-loop-done : goal.invariant-loop-done
-invariant-loop-done g l = (l.done ≤ length l.image) × (length l.image ≡ length l.fn.image)
+invariant-loop-done g l = l.done ≤ length l.image
 
 abbrev pub decreases-loop-done : goal.decreases-loop-done
-decreases-loop-done g l = length l.fn.image - l.done
+decreases-loop-done g l = length l.image - l.done
