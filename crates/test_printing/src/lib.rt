@@ -1,71 +1,85 @@
 #![tactic(auto)]
 
 // Lines that the programs on flash partitions print, and what they tell of an image.
-use flash::{LiveNumber, Summary};
+use flash::Counts;
+use flash_model::FlashError;
+use std::fmt;
 use std::io;
-use test_scenarios::pages::{first_different, save_round};
+use std::ops::Range;
+use test_scenarios::pages::first_different;
 
-pub fn print_text(rt: &impl Print, bytes: &[u8]) -> io::Result<()> {
-    rt.write_all(bytes)
+// What a report tells: its counts, or its refusal.
+#[derive(Clone, Copy)]
+pub struct Report(Result<Counts, FlashError>);
+
+impl Report {
+    pub fn of(image: &[u8], partition: u8) -> Report {
+        Report(flash::report(image, partition))
+    }
 }
 
-pub fn print_number(rt: &impl Print, n: usize) -> io::Result<()> {
-    print!(rt; "{n}")
+impl fmt::Display for Report {
+    fn fmt<W: fmt::Write>(&self, f: &mut fmt::Formatter<W>) -> fmt::Result {
+        match self.0 {
+            Ok(c) => write!(
+                f,
+                "version {} user {} used {} live {}",
+                c.version, c.capacity, c.used, c.live
+            ),
+            Err(refused) => write!(f, "{refused}"),
+        }
+    }
 }
 
-// A line: the label and what a call answered.
-pub fn print_answer(rt: &impl Print, label: &[u8], answered: u8) -> io::Result<()> {
-    print_count(rt, label, answered as usize)
+// Whether numbers read back as the pages of a round: the first that doesn't.
+#[derive(Clone, Copy)]
+pub struct ReadBack(Option<usize>);
+
+impl ReadBack {
+    pub fn of(image: &[u8], partition: u8, numbers: Range<usize>, round: usize) -> ReadBack {
+        ReadBack(first_different(image, partition, numbers, round))
+    }
 }
 
-// A line: the label and a count.
-pub fn print_count(rt: &impl Print, label: &[u8], n: usize) -> io::Result<()> {
-    print_text(rt, label)?;
-    println!(rt; ": {n}")
+impl fmt::Display for ReadBack {
+    fn fmt<W: fmt::Write>(&self, f: &mut fmt::Formatter<W>) -> fmt::Result {
+        match self.0 {
+            None => write!(f, "whole"),
+            Some(n) => write!(f, "different {n}"),
+        }
+    }
+}
+
+fn adler_step(sum: u32, byte: u8) -> u32 {
+    let low = (sum % 65536 + u32::from(byte)) % 65521;
+    let high = (sum / 65536 + low) % 65521;
+    high * 65536 + low
+}
+
+// Adler-32 over the whole image, so that another program can tell whether it has the same bytes.
+pub fn adler(image: &[u8]) -> u32 {
+    image.iter().fold(1, |sum, byte| adler_step(sum, *byte))
+}
+
+// A line: the label and what a call answered, 0 or the refusal's number.
+pub fn print_answer(
+    rt: &impl Print,
+    label: &str,
+    answer: Result<(), FlashError>,
+) -> io::Result<()> {
+    let number = answer.err().map_or(0, u8::from);
+    println!(rt; "{label}: {number}")
 }
 
 // A line: the label, and whether two runs of bytes are the same.
 pub fn print_unchanged(
     rt: &impl Print,
-    label: &[u8],
+    label: &str,
     before: &[u8],
     after: &[u8],
 ) -> io::Result<()> {
-    print_text(rt, label)?;
-    if words::same(before, after) {
-        println!(rt; ": unchanged")
-    } else {
-        println!(rt; ": changed")
-    }
-}
-
-// A line: the label and what check answers.
-pub fn print_check(rt: &impl Print, label: &[u8], image: &[u8], partition: u8) -> io::Result<()> {
-    print_answer(rt, label, flash::check(image, partition))
-}
-
-// A line: the label and what read answers.
-pub fn print_read(
-    rt: &impl Print,
-    label: &[u8],
-    image: &[u8],
-    partition: u8,
-    n: usize,
-    page: &mut [u8],
-) -> io::Result<()> {
-    print_answer(rt, label, flash::read(image, partition, n, page))
-}
-
-// A line: the label and what the save of a round answers.
-pub fn print_save(
-    rt: &impl Print,
-    label: &[u8],
-    image: &mut [u8],
-    partition: u8,
-    n: usize,
-    round: usize,
-) -> io::Result<()> {
-    print_answer(rt, label, save_round(image, partition, n, round))
+    let told = if before == after { "unchanged" } else { "changed" };
+    println!(rt; "{label}: {told}")
 }
 
 // A line: the lowest live number from `from` on.
@@ -77,78 +91,24 @@ pub fn print_next_live(
 ) -> io::Result<()> {
     print!(rt; "next live of partition {partition} from {from}: ")?;
     match flash::next_live(image, partition, from) {
-        LiveNumber::Refused(refused) => println!(rt; "refused {refused}"),
-        LiveNumber::Hit(n) => println!(rt; "number {n}"),
+        Ok(n) => println!(rt; "number {n}"),
+        Err(refused) => println!(rt; "{refused}"),
     }
 }
 
-// The counts of a report, or its refusal.
-pub fn print_report_values(rt: &impl Print, image: &[u8], partition: u8) -> io::Result<()> {
-    match flash::report(image, partition) {
-        Summary::Refused(refused) => print!(rt; " refused {refused}"),
-        Summary::Counted(c) => print!(rt;
-            " version {} user {} used {} live {}",
-            c.version, c.capacity, c.used, c.live
-        ),
-    }
+// A line: the label, the report, and the sum of the image.
+pub fn print_report(rt: &impl Print, label: &str, image: &[u8], partition: u8) -> io::Result<()> {
+    let report = Report::of(image, partition);
+    println!(rt; "{label}: {report} image {:08x}", adler(image))
 }
 
-fn adler_step(sum: u32, byte: u8) -> u32 {
-    let low = (sum % 65536 + byte as u32) % 65521;
-    let high = (sum / 65536 + low) % 65521;
-    high * 65536 + low
-}
-
-// Adler-32 over the whole image, so that another program can tell whether it has the same bytes.
-fn adler(image: &[u8]) -> u32 {
-    let mut sum: u32 = 1;
-    for i in 0..image.len() {
-        sum = adler_step(sum, image[i]);
-    }
-    sum
-}
-
-pub fn print_image_sum(rt: &impl Print, image: &[u8]) -> io::Result<()> {
-    print!(rt; " image {:08x}", adler(image))
-}
-
-// A line: the label, the report's counts, and the sum of the image.
-pub fn print_report(rt: &impl Print, label: &[u8], image: &[u8], partition: u8) -> io::Result<()> {
-    print_text(rt, label)?;
-    print!(rt; ":")?;
-    print_report_values(rt, image, partition)?;
-    print_image_sum(rt, image)?;
-    println!(rt; "")
-}
-
-// ` whole` where each number from `from` to below `end` reads back as the page of the round, else the first that doesn't.
-pub fn print_read_back(
-    rt: &impl Print,
-    image: &[u8],
-    partition: u8,
-    from: usize,
-    end: usize,
-    round: usize,
-) -> io::Result<()> {
-    let n = first_different(image, partition, from, end, round);
-    if n < end {
-        print!(rt; " different {n}")
-    } else {
-        print!(rt; " whole")
-    }
-}
-
-// A line: the label, and whether those numbers read back.
+// A line: the label, and whether those numbers of partition 3 read back.
 pub fn print_pages(
     rt: &impl Print,
-    label: &[u8],
+    label: &str,
     image: &[u8],
-    from: usize,
-    end: usize,
+    numbers: Range<usize>,
     round: usize,
 ) -> io::Result<()> {
-    print_text(rt, label)?;
-    print!(rt; ":")?;
-    print_read_back(rt, image, 3, from, end, round)?;
-    println!(rt; "")
+    println!(rt; "{label}: {}", ReadBack::of(image, 3, numbers, round))
 }
