@@ -4,24 +4,24 @@ use std::io;
 use test_printing::{print_answer, print_report};
 use test_scenarios::pages::{format, save_round};
 
-// One byte less than a partition has, as many as one has, and one byte more.
 pub(crate) fn lengths(rt: &impl Print) -> io::Result<()> {
-    let mut less = [0; 16383];
-    format(&mut less, 2, 1);
-    print_answer(rt, "length 16383 check", check(&less, 2))?;
-    let mut right = [0; 16384];
-    format(&mut right, 2, 1);
-    print_answer(rt, "length 16384 check", check(&right, 2))?;
-    let mut more = [0; 16385];
-    format(&mut more, 2, 1);
-    print_answer(rt, "length 16385 check", check(&more, 2))
+    let mut longest = [0; 16385];
+    for length in 16383..=16385 {
+        let image = &mut longest[..length];
+        format(image, 2, 1);
+        print!(rt; "length {length} ")?;
+        print_answer(rt, "check", check(image, 2))?;
+    }
+    Ok(())
 }
 
 pub(crate) fn versions(rt: &impl Print, image: &mut [u8; 32768]) -> io::Result<()> {
-    format(image, 3, 1);
-    print_answer(rt, "version 1 check", check(image, 3))?;
-    format(image, 3, 2);
-    print_answer(rt, "version 2 check", check(image, 3))
+    for version in 1..=2 {
+        format(image, 3, version);
+        print!(rt; "version {version} ")?;
+        print_answer(rt, "check", check(image, 3))?;
+    }
+    Ok(())
 }
 
 pub(crate) fn headers(rt: &impl Print, image: &mut [u8; 32768]) -> io::Result<()> {
@@ -35,10 +35,12 @@ pub(crate) fn headers(rt: &impl Print, image: &mut [u8; 32768]) -> io::Result<()
 // The bitmap begins at byte 32704. There BF allocates block 2 while block 1 is free.
 pub(crate) fn bitmap(rt: &impl Print, image: &mut [u8; 32768]) -> io::Result<()> {
     format(image, 3, 1);
-    image[32704] = 0x7F;
-    print_answer(rt, "bitmap 7F check", check(image, 3))?;
-    image[32704] = 0xBF;
-    print_answer(rt, "bitmap BF check", check(image, 3))
+    for byte in [0x7F, 0xBF] {
+        image[32704] = byte;
+        print!(rt; "bitmap {byte:02X} ")?;
+        print_answer(rt, "check", check(image, 3))?;
+    }
+    Ok(())
 }
 
 pub(crate) fn top_number(rt: &impl Print, image: &mut [u8; 32768]) -> io::Result<()> {

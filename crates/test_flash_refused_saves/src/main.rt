@@ -11,5 +11,5 @@ fn main(rt: HostRuntime) -> io::Result<()> {
     refusals::next_numbers(&rt, &mut image)?;
     refusals::other_partition(&rt, &mut image)?;
     refusals::save_buffers(&rt, &mut image)?;
-    refusals::expected_pages(&rt, image)
+    refusals::expected_pages(&rt, &mut image)
 }

@@ -3,9 +3,8 @@
 // Lines that the programs on flash partitions print, and what they tell of an image.
 use flash::Counts;
 use flash_model::FlashError;
-use std::fmt;
-use std::io;
 use std::ops::Range;
+use std::{fmt, io};
 use test_scenarios::pages::first_different;
 
 // What a report tells: its counts, or its refusal.
@@ -78,7 +77,11 @@ pub fn print_unchanged(
     before: &[u8],
     after: &[u8],
 ) -> io::Result<()> {
-    let told = if before == after { "unchanged" } else { "changed" };
+    let told = if before == after {
+        "unchanged"
+    } else {
+        "changed"
+    };
     println!(rt; "{label}: {told}")
 }
 

@@ -6,7 +6,10 @@ use std::ops::Range;
 // Makes the image an empty partition, whatever its length: the header as far as it goes, and then 255.
 pub fn format(image: &mut [u8], partition: u8, version: u8) {
     image.fill(255);
-    let header = b"KATANA_FLASH____".iter().copied().chain([partition, version]);
+    let header = b"KATANA_FLASH____"
+        .iter()
+        .copied()
+        .chain([partition, version]);
     for (byte, given) in image.iter_mut().zip(header) {
         *byte = given;
     }
