@@ -39,7 +39,8 @@ impl<'a> Partition<'a> {
         any
     }
 
-    // From `top` down, the block where the search goes on: eights none of which has the number are passed.
+    // From `top` down, the block where the search goes on: eights none of which has the number are passed. What is left of a range
+    // by eights, turned round, would have to be worked out again, so the loop counts down.
     fn pass_eights(self, top: usize, number: usize) -> usize
         requires { top ≤ capacity self.log.m.size }
         ensures { (result ≤ top) × (found_up_to self.entry.image.now number top ≡ found_up_to self.entry.image.now number result) }
