@@ -6,6 +6,8 @@ use mathlib.Core.List.{List}
 use mathlib.Core.Logic.{◌≢◌}
 use borrow.Author.Tests.{eq-eqb, ne_eqb}
 use lib.ListN.{length}
+use Rattle.std.specs.Prelude.{IfOk}
+use Rattle.std.specs.declared.result.Result.{Result}
 use Rattle.verdicts.specs.declared.Place.TheVariants.{Whole, Entry}
 use Rattle.verdicts.specs.declared.CardError.{CardError}
 use Rattle.verdicts.specs.Rows.{Verdict, done, refused_at, accepted, unless_refused, error_verdict}
@@ -19,6 +21,7 @@ use Rattle.card_directory.specs.Listed.{Listed}
 use Rattle.card_games.specs.Rules.{GoodChains}
 use Rattle.card_chains.specs.Marks.{MarkedFiles}
 use Rattle.card_chains.specs.Rows.{chain_rows}
+use Rattle.card_check.specs.declared.Opened.{Opened}
 use Rattle.card_check.specs.Opening.{OpenCard}
 
 -- where row v and those behind it decide: v's refusal is the verdict, and else the later rows are
@@ -29,9 +32,9 @@ module _ (v later : Verdict) {whole : Verdict} (from : unless_refused v later �
   passes : done ≡ v → later ≡ whole
   passes q = sym (passed_first v later q) ∙ from
 
-pub wrong-length : (card : List ℕ) → length card ≢ card_length → refused_at 20 Whole ≡ verdict_of card
-unfolding verdict_of length_row
-wrong-length card n = rw (ne_eqb (length card) card_length n)
+pub wrong_length : (card : List ℕ) → length card ≢ 131072 → refused_at 20 Whole ≡ verdict_of card
+unfolding verdict_of length_row card_length
+wrong_length card n = rw (ne_eqb (length card) 131072 n)
 
 -- ---- the rows in their order, on a card of the right length
 abbrev from_29 : List ℕ → Verdict
@@ -107,3 +110,8 @@ listed_slice directory used slice e l = rw e l
 pub open_card : (s used marks : List ℕ) → done ≡ verdict_of s → Listed (directory_of s) 208 used (length used)
     → MarkedFiles (table_of s) (files_before (table_of s) (directory_of s) 208) marks → OpenCard s used marks
 open_card s used marks v l m = record { rows = accepted-rows s (ap accepted (sym v)); listed = l; marked = m }
+
+pub same_card : (r : Result Opened CardError) (s card : List ℕ) → s ≡ card → IfOk r (λ o. o.card.now ≡ s) → IfOk r (λ o. o.card.now ≡ card)
+same_card r s card e h = simp e at h
+
+pub ruleset rows = (by_table, by_26, by_chains, by_29, by_30, entries_right, chains_good, listed_slice, open_card)

@@ -26,7 +26,7 @@ pub struct Opened<'a> {
 }
 
 // Refusals 21 to 30, of a card of the right length.
-#[tactic(auto, using(crate::proofs::RowLaws::by_table, crate::proofs::RowLaws::by_26, crate::proofs::RowLaws::by_chains, crate::proofs::RowLaws::by_29, crate::proofs::RowLaws::by_30, crate::proofs::RowLaws::entries_right, crate::proofs::RowLaws::chains_good, crate::proofs::RowLaws::listed_slice, crate::proofs::RowLaws::open_card))]
+#[tactic(auto, using(crate::proofs::RowLaws::rows), unfolding(card_chains::specs::Marks::no_marks))]
 fn open_right_length(card: &[u8; LENGTH]) -> Result<Opened<'_>, CardError>
     ensures verdict { result_verdict result ≡ verdict_of card.now }
     ensures opened { IfOk result (λ o. o.card.now ≡ card.now) }
@@ -43,6 +43,7 @@ fn open_right_length(card: &[u8; LENGTH]) -> Result<Opened<'_>, CardError>
 }
 
 // Refusals 20 to 30. The length is tested before all that asks for it.
+#[tactic(auto, using(crate::proofs::RowLaws::wrong_length))]
 pub fn open(card: &[u8]) -> Result<Opened<'_>, CardError>
     ensures verdict { result_verdict result ≡ verdict_of card.now }
     ensures opened { IfOk result (λ o. o.card.now ≡ card.now) }
