@@ -1,60 +1,40 @@
--- What the calls answer once the verdict v of the check is known. Assumes nothing.
+-- What check and list answer once the verdict of the check is known. Assumes nothing.
 use Prim.Native.Nat.{ℕ, ◌<◌, ◌-◌}
-use mathlib.Core.Path.{◌≡◌, refl, ◌∙◌}
+use mathlib.Core.Path.{◌≡◌}
 use mathlib.Core.List.{List}
-use Rattle.std.specs.Prelude.{Option, Some}
 use native.Mathlib.Omega.{arith}
-use borrow.Author.Tests.{eq-eqb, ne_eqb}
-use lib.ListN.{length, replicate}
+use Rattle.std.specs.Prelude.{Option, None, Some, Ok, Err}
 use Rattle.words.proofs.SearchLaws.{lowest-some}
-use Rattle.verdicts.specs.Rows.{Verdict}
-use Rattle.card_model.specs.Answers.{Checked}
+use Rattle.verdicts.specs.declared.Place.TheVariants.{Whole}
+use Rattle.verdicts.specs.declared.Rule.TheVariants.{NoFile}
+use Rattle.verdicts.specs.declared.CardError.{CardError}
+use Rattle.verdicts.specs.Rows.{done, error_verdict}
+use Rattle.verdicts.proofs.RowLaws.{error-refuses}
 use Rattle.card_model.specs.Layout.{table_of, directory_of}
 use Rattle.card_model.specs.Files as files
-use Rattle.card_model.specs.Calls.{verdict_of, check_of, not_checked, not_listed, first_used, listed_from, list_of, entry_named, read_rows, read_verdict, left_by, read_buffer}
-use Rattle.card_chains.specs.Marks.{no_marks}
+use Rattle.card_model.specs.Calls.{verdict_of, check_of, first_used, listed_from, list_of}
+use Rattle.card_model.specs.Results.{check_answer, list_answer}
 
--- the two arrays that a call lends to the opening
-pub new-arrays : (length {A = ℕ} (replicate 208 0) ≡ 208) × (replicate 200 0 ≡ no_marks)
-unfolding no_marks
-new-arrays = (refl, refl)
+pub check_refused : (card : List ℕ) (e : CardError) → error_verdict e ≡ verdict_of card → check_answer (Err e) ≡ check_of card
+unfolding check_of
+check_refused card e q = rw (← q, error-refuses e)
 
-module _ (card : List ℕ) (v : Verdict) (e : v ≡ verdict_of card) where
-  pub check-refused : (v.number ≡ 0 → ⊥) → not_checked v ≡ check_of card
-  unfolding check_of
-  check-refused n = rw (← e, ne_eqb v.number 0 n)
+pub check_passed : (card : List ℕ) (n : ℕ) → done ≡ verdict_of card → n ≡ files.orphans (table_of card) (directory_of card) → check_answer (Ok n) ≡ check_of card
+unfolding check_of
+check_passed card n q o = rw (← q, o)
 
-  pub check-passed : v.number ≡ 0 → (o : ℕ) → o ≡ files.orphans (table_of card) (directory_of card)
-      → ◌≡◌ {A = Checked} (record { verdict = v; orphans = o }) (check_of card)
-  unfolding check_of
-  check-passed z o q = rw (← e, eq-eqb v.number 0 z, q)
+pub list_refused : (card : List ℕ) (start : ℕ) (e : CardError) → error_verdict e ≡ verdict_of card → list_answer (Err e) ≡ list_of card start
+unfolding list_of
+list_refused card start e q = rw (← q, error-refuses e)
 
-  -- ---- list
+pub list_none : (card : List ℕ) (start : ℕ) → done ≡ verdict_of card → first_used (directory_of card) start ≡ None
+    → list_answer (Err (record { rule = NoFile; place = Whole })) ≡ list_of card start
+unfolding list_of
+list_none card start q n = rw (← q, n)
 
-  module _ (start : ℕ) where
-    pub list-refused : (v.number ≡ 0 → ⊥) → not_listed v ≡ list_of card start
-    unfolding list_of
-    list-refused n = rw (← e, ne_eqb v.number 0 n)
-
-    pub list-passed : v.number ≡ 0 → (o : Option ℕ) → first_used (directory_of card) start ≡ o → listed_from (directory_of card) o ≡ list_of card start
-    unfolding list_of
-    list-passed z o q = rw (← e, eq-eqb v.number 0 z, q)
-
-  -- ---- read
-
-  module _ (name : List ℕ) (index : ℕ) (buffer : List ℕ) where
-    pub read-refused : (v.number ≡ 0 → ⊥) → (v ≡ read_verdict card name index buffer) × (buffer ≡ read_buffer card name index buffer)
-    unfolding read_verdict read_buffer
-    read-refused n = (rw (← e, ne_eqb v.number 0 n), rw (← e, ne_eqb v.number 0 n, ne_eqb v.number 0 n))
-
-    -- r and `left` are what the rest of a read answered and left
-    pub read-passed : v.number ≡ 0 → (r : Verdict) → r ≡ read_rows (directory_of card) name index buffer
-        → (left : List ℕ) → left ≡ left_by r card index (entry_named (directory_of card) name) buffer
-        → (r ≡ read_verdict card name index buffer) × (left ≡ read_buffer card name index buffer)
-    unfolding read_verdict read_buffer
-    read-passed z r q left w =
-        let d : r ≡ read_verdict card name index buffer = q ∙ rw (← e, eq-eqb v.number 0 z) in
-        (d, w ∙ rw d)
+pub list_some : (card : List ℕ) (start i : ℕ) → done ≡ verdict_of card → first_used (directory_of card) start ≡ Some i → listed_from (directory_of card) (Some i) ≡ list_of card start
+unfolding list_of
+list_some card start i q n = rw (← q, n)
 
 -- an entry that a listing found is in the directory
 pub used_below : (directory : List (List ℕ)) (start i : ℕ) → first_used directory start ≡ Some i → i < 208

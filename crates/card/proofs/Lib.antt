@@ -1,4 +1,4 @@
 pub mod AnswerLaws
-pub mod WriteLaws
-pub mod DeleteLaws
 pub mod ReadLaws
+pub mod DeleteLaws
+pub mod WriteLaws

@@ -1,23 +1,24 @@
 -- A read from a sound card: rows 33, 31 and 32, or the block. Assumes nothing.
 use Prim.Native.Nat.{ℕ, ◌+◌, ◌-◌, ◌*◌, ◌≤◌, ◌<◌}
-use mathlib.Core.Path.{◌≡◌, refl, ap, ◌∙◌}
-use mathlib.Core.Bool.{true, false, or-true}
+use mathlib.Core.Path.{◌≡◌, sym, ◌∙◌}
+use mathlib.Core.Bool.{true, or-true}
 use mathlib.Core.List.{List}
+use mathlib.Core.Logic.{◌≢◌, ◌⊎◌, inl, inr}
 use Rattle.std.specs.Prelude.{None, Some}
 use native.Mathlib.Omega.{arith}
 use native.Mathlib.Nat.{add-sub_cancel_left}
-use borrow.Author.Tests.{ne_eqb, le-leb, lt-leb}
-use lib.Dec.{eqb}
+use borrow.Author.Tests.{ne_eqb}
 use lib.ListN.{length, get_or, take, drop}
 use Rattle.words.proofs.Bools.{and-true-left}
 use Rattle.words.proofs.SearchLaws.{lowest-some}
 use Rattle.verdicts.specs.declared.Place.TheVariants.{Whole}
-use Rattle.verdicts.specs.Rows.{Verdict}
-use Rattle.verdicts.specs.Rows.{refused_at}
-use Rattle.card_model.specs.Layout.{card_length, block_at, table_of, directory_of}
+use Rattle.verdicts.specs.declared.CardError.{CardError}
+use Rattle.verdicts.specs.Rows.{Verdict, done, refused_at, error_verdict}
+use Rattle.verdicts.proofs.RowLaws.{error-refuses, error_first, passed_first}
+use Rattle.card_model.specs.Layout.{block_at, table_of, directory_of}
 use Rattle.card_model.specs.Entries.{first_block, size, is_used, entry_at, is_named}
 use Rattle.card_model.specs.Files.{chain, file_of}
-use Rattle.card_model.specs.Calls.{entry_named, index_row, read_rows, file_block, left_by}
+use Rattle.card_model.specs.Calls.{verdict_of, entry_named, index_row, read_rows, read_verdict, file_block, left_by, read_buffer}
 use Rattle.card_model.specs.Sound.{NoRowRefuses, UsedEntry}
 use Rattle.card_model.proofs.EntryLaws.{right-entry, file-chain}
 use Rattle.card_chains.specs.Steps.{block_after}
@@ -31,42 +32,46 @@ named-used card name i e =
     record { in_directory = omega (arith, l.high); is_used_lem = and-true-left _ _ l.passes }
 
 module _ (card name : List ℕ) (index : ℕ) (buffer : List ℕ) where
-  abbrev directory : List (List ℕ)
-  directory = directory_of card
+  -- a read that is refused leaves the buffer
+  pub read_kept : (e : CardError) → error_verdict e ≡ read_verdict card name index buffer → buffer ≡ read_buffer card name index buffer
+  unfolding read_buffer
+  read_kept e q = rw (← q, error-refuses e)
 
-  -- r is the verdict, and the buffer is left so
-  pub record ReadAs (r : Verdict) (left : List ℕ) : Type 0 where
-    pub verdict_is : r ≡ read_rows directory name index buffer
-    pub buffer_is : left ≡ left_by r card index (entry_named directory name) buffer
+  pub read_refused : (e : CardError) → error_verdict e ≡ verdict_of card → error_verdict e ≡ read_verdict card name index buffer
+  unfolding read_verdict
+  read_refused e q = sym (error_first e (verdict_of card) _ q)
 
-  refused : (n : ℕ) (r : Verdict) → eqb n 0 ≡ false → r ≡ refused_at n Whole → refused_at n Whole ≡ read_rows directory name index buffer → ReadAs r buffer
-  refused n r z e q = record { verdict_is = e ∙ q; buffer_is = rw (e, z) }
+  module _ (v : done ≡ verdict_of card) where
+    past-check : read_verdict card name index buffer ≡ read_rows (directory_of card) name index buffer
+    unfolding read_verdict
+    past-check = passed_first _ _ v
 
-  pub wrong_name : (r : Verdict) → r ≡ refused_at 33 Whole → (length name ≡ 12 → ⊥) → ReadAs r buffer
-  unfolding read_rows
-  wrong_name r e n = refused 33 r refl e (rw (ne_eqb (length name) 12 n))
-
-  pub wrong-block : (r : Verdict) → r ≡ refused_at 33 Whole → (length buffer ≡ 512 → ⊥) → ReadAs r buffer
-  unfolding read_rows
-  wrong-block r e n = refused 33 r refl e (rw (ne_eqb (length buffer) 512 n, or-true))
-
-  module _ (n : length name ≡ 12) (l : length buffer ≡ 512) where
-    pub no_file : (r : Verdict) → r ≡ refused_at 31 Whole → entry_named directory name ≡ None → ReadAs r buffer
+    pub read_33 : (length name ≢ 12) ⊎ ((length name ≡ 12) × (length buffer ≢ 512)) → refused_at 33 Whole ≡ read_verdict card name index buffer
     unfolding read_rows
-    no_file r e q = refused 31 r refl e (rw (n, l, q))
+    read_33 (inl n) = rw (past-check, ne_eqb (length name) 12 n)
+    read_33 (inr n) = rw (past-check, ne_eqb (length buffer) 512 n.1, or-true)
 
-    pub of_entry_lem : (i : ℕ) → entry_named directory name ≡ Some i → (r : Verdict) → r ≡ index_row directory index (Some i)
-        → (left : List ℕ) → left ≡ left_by r card index (Some i) buffer → ReadAs r left
+    pub past_33 : length name ≡ 12 → length buffer ≡ 512 → read_verdict card name index buffer ≡ index_row (directory_of card) index (entry_named (directory_of card) name)
     unfolding read_rows
-    of_entry_lem i q r e left w = record { verdict_is = e ∙ rw (n, l, q); buffer_is = w ∙ rw q }
+    past_33 n l = rw (past-check, n, l)
+
+    -- s is the card that was opened
+    module _ (n : length name ≡ 12) (l : length buffer ≡ 512) {s : List ℕ} (q : s ≡ card) where
+      pub read_31 : entry_named (directory_of s) name ≡ None → refused_at 31 Whole ≡ read_verdict card name index buffer
+      read_31 h = rw (past_33 n l, ← q, h)
+
+      -- the rest of the read, from the entry that has the name
+      module _ (i : ℕ) (h : entry_named (directory_of s) name ≡ Some i) {r : Verdict} (e : r ≡ index_row (directory_of s) index (Some i)) where
+        pub read_as : r ≡ read_verdict card name index buffer
+        read_as = e ∙ rw (past_33 n l, ← q, h)
+
+        pub left_as : {left : List ℕ} → left ≡ left_by r s index (Some i) buffer → left ≡ read_buffer card name index buffer
+        unfolding read_buffer
+        left_as w = w ∙ rw (read_as, ← q, h)
 
 -- ---- the block at an index of entry i's file, where s is the entry
 
--- the part of the card that is copied
-abbrev part : List ℕ → ℕ → List ℕ
-part card b = take (b * 512 + 512 - b * 512) (drop (b * 512) card)
-
-module _ (card : List ℕ) (rows : NoRowRefuses card) (i : ℕ) (u : UsedEntry card i) (s : List ℕ) (es : s ≡ entry_at (directory_of card) i) where
+module _ (card : List ℕ) (rows : NoRowRefuses card) (i : ℕ) (u : UsedEntry card i) {s : List ℕ} (es : s ≡ entry_at (directory_of card) i) where
   used : is_used s ≡ true
   used = rw es u.is_used_lem
 
@@ -76,17 +81,10 @@ module _ (card : List ℕ) (rows : NoRowRefuses card) (i : ℕ) (u : UsedEntry c
   chain-is : chain (table_of card) (size s) (first_block s) ≡ Some (file_of (table_of card) s)
   chain-is = file-chain s used (table_of card) (rw es (rows.chains i u.in_directory))
 
-  module _ (index : ℕ) (buffer : List ℕ) (r : Verdict) where
-    pub past_end : r ≡ refused_at 32 Whole → size s ≤ index
-        → (r ≡ index_row (directory_of card) index (Some i)) × (buffer ≡ left_by r card index (Some i) buffer)
-    past_end e h = (e ∙ rw (← es, le-leb (size s) index h), rw e)
-
-    -- b is the block that the steps lead to, and the buffer holds what was copied over it
-    pub in_file : r ≡ refused_at 0 Whole → index < size s → (b : ℕ) → b ≡ block_after (table_of card) (first_block s) index → b < 200
-        → (left : List ℕ) → left ≡ part card b
-        → (r ≡ index_row (directory_of card) index (Some i)) × (left ≡ left_by r card index (Some i) buffer)
-    unfolding file_block block_at card_length
-    in_file e h b after low left w =
-        let p : part card b ≡ take 512 (drop (b * 512) card) = ap (λ (k : ℕ). take k (drop (b * 512) card)) (add-sub_cancel_left (b * 512) 512) in
-        let d : b ≡ get_or (file_of (table_of card) s) index 0 = after ∙ block-of-chain (table_of card) (size s) (first_block s) (file_of (table_of card) s) chain-is index h in
-        (e ∙ rw (← es, lt-leb (size s) index h), w ∙ rw (e, p, ← es, ← d))
+  -- b is the block that the steps lead to
+  pub in_file : (index : ℕ) → index < size s → {b : ℕ} → b ≡ block_after (table_of card) (first_block s) index
+      → take (b * 512 + 512 - b * 512) (drop (b * 512) card) ≡ block_at card (file_block card i index)
+  unfolding file_block block_at
+  in_file index h {b} after =
+      let d : b ≡ get_or (file_of (table_of card) s) index 0 = after ∙ block-of-chain (table_of card) (size s) (first_block s) (file_of (table_of card) s) chain-is index h in
+      rw (add-sub_cancel_left (b * 512) 512, ← es, ← d)

@@ -1,37 +1,40 @@
-use mathlib.Core.Path.{◌≡◌, sym, ◌∙◌}
-use Rattle.std.specs.Prelude.{Some}
-use borrow.Author.Tests.{eq-eqb}
-use Rattle.card_model.specs.Layout.{directory_of}
-use Rattle.card_model.specs.Calls.{entry_named}
-use Rattle.card_directory.proofs.DirectoryLaws.{found_some, found_none}
-use Rattle.card.proofs.AnswerLaws.{new-arrays}
+use mathlib.Core.Path.{sym, ap, ◌∙◌}
+use lib.ListN.{length}
+use Rattle.verdicts.specs.Rows.{error_verdict}
+use Rattle.card_model.specs.Layout.{card_length}
 use Rattle.card.proofs.ReadLaws.{named-used}
-use Rattle.card.proofs.DeleteLaws.{by-check, by-33, by-31, removed}
+use Rattle.card.proofs.DeleteLaws.{delete_kept, by_check, by_33, by_31, delete_done, without_is}
 use Rattle.card.proofs.delete.Goals as goal
 
-pub open-opened-requires : goal.open-opened-requires
-open-opened-requires c = new-arrays
+pub returns-in_err-opened-clause-card_after : goal.returns-in_err-opened-clause-card_after
+returns-in_err-opened-clause-card_after c = delete_kept _ _ _ (by_check _ _ _ c.in_err-opened.ensures.verdict)
 
-pub returns-then-opened-ne0 : goal.returns-then-opened-ne0
-returns-then-opened-ne0 c =
-    record { value = (by-check _ _ _ c.open-opened.ensures.verdict_value c.if-opened-ne0.true).0; card_after = (by-check _ _ _ c.open-opened.ensures.verdict_value c.if-opened-ne0.true).1 }
+pub returns-then-name-ne12-clause-card_after : goal.returns-then-name-ne12-clause-card_after
+returns-then-name-ne12-clause-card_after c =
+    delete_kept _ _ c.at.result (ap error_verdict c.at.ensures ∙ by_33 _ _ c.in_ok-opened.ensures.verdict c.if-name-ne12.true)
 
-pub returns-then-name-ne12 : goal.returns-then-name-ne12
-returns-then-name-ne12 c =
-    record { value = (by-33 _ _ _ c.open-opened.ensures.verdict_value c.if-opened-ne0.false _ c.refused_at.ensures c.if-name-ne12.true).0; card_after = (by-33 _ _ _ c.open-opened.ensures.verdict_value c.if-opened-ne0.false _ c.refused_at.ensures c.if-name-ne12.true).1 }
+pub returns-in_err-i-clause-card_after : goal.returns-in_err-i-clause-card_after
+returns-in_err-i-clause-card_after c =
+    delete_kept _ _ c.at-2.result
+    (ap error_verdict c.at-2.ensures
+    ∙ by_31 _ _ c.in_ok-opened.ensures.verdict c.if-name-ne12.false c.in_ok-opened.ensures.opened (sym c.named.ensures ∙ c.in_err-i.ensures.ok_part))
 
-pub returns-in_default : goal.returns-in_default
-returns-in_default c =
-    let q = found_none _ (sym c.find_named.ensures ∙ c.in_default.is) in
-    record { value = (by-31 _ _ _ c.open-opened.ensures.verdict_value c.if-opened-ne0.false c.if-name-ne12.false _ c.refused_at-in_default.ensures q).0; card_after = (by-31 _ _ _ c.open-opened.ensures.verdict_value c.if-opened-ne0.false c.if-name-ne12.false _ c.refused_at-in_default.ensures q).1 }
+pub unwrap-card-requires : goal.unwrap-card-requires
+unfolding card_length
+unwrap-card-requires c = c.as_mut_array.ensures.variant.1 (ap length (sym c.in_ok-opened.ensures.opened) ∙ c.in_ok-opened.opened.is_open.rows.long)
 
 pub remove_file-requires : goal.remove_file-requires
 remove_file-requires c =
-    let is_open = c.open-opened.ensures.open_card (eq-eqb _ _ c.if-opened-ne0.false) in
-    let named : entry_named (directory_of c.args.card.now) c.args.name.now ≡ Some c.in-Hit.i = found_some _ _ (sym c.find_named.ensures ∙ c.in-Hit.is) in
-    (is_open.rows, named-used _ _ _ named)
+    let whole = rw c.unwrap-card.ensures at c.as_mut_array.ensures.cases in
+    rw (whole.same, ← c.in_ok-opened.ensures.opened)
+    (c.in_ok-opened.opened.is_open.rows, named-used _ c.args.name.now _ (sym c.named.ensures ∙ c.in_ok-i.ensures.ok_part))
 
-pub returns : goal.returns
-returns c =
-    let named : entry_named (directory_of c.args.card.now) c.args.name.now ≡ Some c.in-Hit.i = found_some _ _ (sym c.find_named.ensures ∙ c.in-Hit.is) in
-    record { value = (removed _ _ _ c.open-opened.ensures.verdict_value c.if-opened-ne0.false c.if-name-ne12.false _ named _ c.done.ensures _ c.remove_file.ensures).0; card_after = (removed _ _ _ c.open-opened.ensures.verdict_value c.if-opened-ne0.false c.if-name-ne12.false _ named _ c.done.ensures _ c.remove_file.ensures).1 }
+pub returns-clause-value : goal.returns-clause-value
+returns-clause-value c =
+    delete_done _ _ c.in_ok-opened.ensures.verdict c.if-name-ne12.false c.in_ok-opened.ensures.opened _ (sym c.named.ensures ∙ c.in_ok-i.ensures.ok_part)
+
+pub returns-clause-card_after : goal.returns-clause-card_after
+returns-clause-card_after c =
+    let whole = rw c.unwrap-card.ensures at c.as_mut_array.ensures.cases in
+    without_is _ _ c.in_ok-opened.ensures.verdict c.if-name-ne12.false c.in_ok-opened.ensures.opened _ (sym c.named.ensures ∙ c.in_ok-i.ensures.ok_part)
+    (rw (whole.same, ← c.in_ok-opened.ensures.opened) at c.remove_file.ensures)

@@ -5,4 +5,6 @@ use Rattle.card.proofs.listing_of.Goals as goal
 pub returns : goal.returns
 unfolding listed_entry kind flag name_of time_of
 returns c =
-    rw (c.done.ensures, c.protection.ensures, c.first_block.ensures, c.size.ensures, c.header_offset.ensures, c.copy_from_slice.ensures.after, c.copy_from_slice-2.ensures.after)
+    let name = rw c.unwrap.ensures at c.as_array.ensures.cases in
+    let time = rw c.unwrap-2.ensures at c.as_array-2.ensures.cases in
+    rw (c.protection.ensures, c.first_block.ensures, c.size.ensures, c.header_offset.ensures, name.same, time.same)

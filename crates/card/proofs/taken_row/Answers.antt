@@ -1,18 +1,12 @@
 use mathlib.Core.Path.{sym, ap, ◌∙◌}
-use Rattle.verdicts.specs.declared.Place.TheVariants.{Entry}
-use Rattle.verdicts.specs.Rows.{row_over}
-use Rattle.card_model.specs.Layout.{directory_of}
-use Rattle.card_model.specs.Calls.{entry_named}
+use Rattle.verdicts.specs.Rows.{error_verdict}
 use Rattle.card_updates.specs.Write.{taken_row}
-use Rattle.card_directory.proofs.DirectoryLaws.{found_some, found_none}
 use Rattle.card.proofs.taken_row.Goals as goal
 
-pub returns-in-Hit : goal.returns-in-Hit
+pub returns-in-Some : goal.returns-in-Some
 unfolding taken_row
-returns-in-Hit c =
-    c.refused_at.ensures ∙ ap (row_over 29 Entry) (sym (found_some (entry_named (directory_of c.args.card.now) c.args.name.now) _ (sym c.find_named.ensures ∙ c.in-Hit.is)))
+returns-in-Some c = rw (c.at.ensures, ← c.in-Some.ensures)
 
-pub returns-in-Nothing : goal.returns-in-Nothing
+pub returns-in-None : goal.returns-in-None
 unfolding taken_row
-returns-in-Nothing c =
-    c.done.ensures ∙ ap (row_over 29 Entry) (sym (found_none (entry_named (directory_of c.args.card.now) c.args.name.now) (sym c.find_named.ensures ∙ c.in-Nothing.is)))
+returns-in-None c = rw (← c.in-None.ensures)
