@@ -11,7 +11,7 @@ pub fn run_end(s: &[u8], at: usize, end: usize, byte: u8) -> usize
     requires { (at ≤ end) × (end ≤ length s.now) }
     ensures { WholeRun s.now byte at end result }
 {
-    let word = byte as u64 * ONES;
+    let word = u64::from(byte) * ONES;
     let mut i = at;
     while 8 <= end - i && words::loads::little8(s, i) == word {
         i += 8;
