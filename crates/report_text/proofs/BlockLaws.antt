@@ -30,17 +30,17 @@ use Rattle.report_text.specs.Text.{line, block_word, block_lines}
 keep-next : (p : ℕ → Bool) (e n gap from : ℕ) → from + gap ≡ n → n < e → ((m : ℕ) → from ≤ m → m < n → p m ≡ false) → p n ≡ true
     → keep p (numbers_from from (e - from)) ≡ n ∷ keep p (numbers_from (n + 1) (e - (n + 1)))
 keep-next p e n zero from g h before here =
-    let same : from ≡ n = omega (arith, g) in
-    rw (same, numbers-next p n e h, here) refl
+    let same : from ≡ n = omega arith in
+    rw (same, numbers-next p n e h, here)
 keep-next p e n (suc gap) from g h before here =
-    rw (numbers-next p from e (omega (arith, g, h)), before from (omega arith) (omega (arith, g)))
-    (keep-next p e n gap (from + 1) (omega (arith, g)) h (λ m a b. before m (omega (arith, a)) b) here)
+    rw (numbers-next p from e (omega arith), before from (omega arith) (omega arith))
+    (keep-next p e n gap (from + 1) (omega arith) h (λ m a b. before m (omega arith) b) here)
 
 keep-none : (p : ℕ → Bool) (e left from : ℕ) → e - from ≡ left → ((m : ℕ) → from ≤ m → p m ≡ false) → keep p (numbers_from from (e - from)) ≡ []
-keep-none p e zero from g None-passes = rw (numbers-end p from e (omega (arith, g))) refl
-keep-none p e (suc left) from g None-passes =
-    rw (numbers-next p from e (omega (arith, g)), None-passes from (omega arith))
-    (keep-none p e left (from + 1) (omega (arith, g)) (λ m a. None-passes m (omega (arith, a))))
+keep-none p e zero from g none-passes = rw (numbers-end p from e (omega arith))
+keep-none p e (suc left) from g none-passes =
+    rw (numbers-next p from e (omega arith), none-passes from (omega arith))
+    (keep-none p e left (from + 1) (omega arith) (λ m a. none-passes m (omega arith)))
 
 -- ---- lines
 

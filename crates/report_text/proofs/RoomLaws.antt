@@ -27,23 +27,21 @@ four-digits n h = rw (decimal_printed n (omega arith)) (length-decimal-le 4 n (o
 
 pub line-short : (label : List ℕ) (n : ℕ) → n < 10000 → length (line label n) ≤ length label + 6
 unfolding line
-line-short label n h =
-    omega (arith, four-digits n h, length-append label (32 ∷ (decimal n ++ 10 ∷ [])), length-append (decimal n) (10 ∷ []))
+line-short label n h = simp length-append (omega (arith, four-digits n h))
 
 -- ---- the block lines
 
 lines-short : (l : List ℕ) → All (λ n. n < 10000) l → length (concat (map (line block_word) l)) ≤ length l * 11
 lines-short [] a = omega arith
-lines-short (n ∷ l) a =
-    omega (arith, lines-short l a.1, line-short block_word n a.0, length-append (line block_word n) (concat (map (line block_word) l)))
+lines-short (n ∷ l) a = simp length-append (omega (arith, lines-short l a.1, line-short block_word n a.0))
 
 keep-shorter : (p : ℕ → Bool) (l : List ℕ) → length (keep p l) ≤ length l
 keep-shorter p [] = omega arith
 keep-shorter p (x ∷ l) = go (keep-shorter p l) (p x)
   where
     go : length (keep p l) ≤ length l → (t : Bool) → length (cond t (x ∷ keep p l) (keep p l)) ≤ suc (length l)
-    go h true = omega (arith, h)
-    go h false = omega (arith, h)
+    go h true = omega arith
+    go h false = omega arith
 
 module _ (image : List ℕ) (sound : Sound image) where
   small : capacity (length image) ≤ 1021
@@ -71,20 +69,7 @@ module _ (image : List ℕ) (sound : Sound image) where
       let three = line-short user_word cap (omega (arith, small)) in
       let four = line-short used_word (used image) (omega (arith, small, meanings.used_most image)) in
       let five = line-short live_word (live image) (omega (arith, small, live-most)) in
-      let last = line used_word (used image) ++ line live_word (live image) in
-      let rest = line user_word cap ++ last in
-      omega (
-        arith,
-        one,
-        two,
-        three,
-        four,
-        five,
-        length-append (line partition_word partition) (line version_word (version image) ++ rest),
-        length-append (line version_word (version image)) rest,
-        length-append (line user_word cap) last,
-        length-append (line used_word (used image)) (line live_word (live image)),
-      )
+      simp length-append (omega (arith, one, two, three, four, five))
 
 -- ---- the whole text
 
@@ -95,6 +80,5 @@ text-short image partition h = go (eqb (refusal image partition) 0) refl
     go : (t : Bool) → eqb (refusal image partition) 0 ≡ t → length (cond t (head_lines partition (version image) (capacity (length image)) (used image) (live image) ++ (block_lines image ++ end_line)) (line refused_word (refusal image partition))) ≤ 12288
     go true q =
         let s = unrefused-sound image partition (eqb-true (refusal image partition) 0 q) in
-        let head = head_lines partition (version image) (capacity (length image)) (used image) (live image) in
-        omega (arith, head-short image s partition h, blocks-short image s, length-append head (block_lines image ++ end_line), length-append (block_lines image) end_line)
+        simp length-append (omega (arith, head-short image s partition h, blocks-short image s))
     go false q = omega (arith, line-short refused_word (refusal image partition) (omega (arith, refusal-most image partition)))

@@ -66,7 +66,7 @@ module _ {image : List ℕ} {partition : ℕ} (named : partition ≡ partition_f
 pub long_text : (image : List ℕ) → 65536 < length image → report_text image ≡ line refused_word 1
 unfolding report_text text_for refusal length_row legal_size sizes
 long_text image h =
-    rw (ne_eqb (length image) 16384 (λ e. omega (arith, e, h)), ne_eqb (length image) 32768 (λ e. omega (arith, e, h)), ne_eqb (length image) 65536 (λ e. omega (arith, e, h))) refl
+    rw (ne_eqb (length image) 16384 (λ e. omega arith), ne_eqb (length image) 32768 (λ e. omega arith), ne_eqb (length image) 65536 (λ e. omega arith))
 
 pub long_fits : length (line refused_word 1) ≤ 12288
 long_fits = omega (arith, line-short refused_word 1 (omega arith))
