@@ -6,6 +6,7 @@ ghost use Rattle.std.specs.Prelude.{◌≤◌, length, IfOk, IfSome};
 use std::io::{self, Read};
 
 // Reads to the end of the input, and answers how many bytes it gave, or `None` where it gave more than the buffer has room for.
+// By `read` alone: std's calls that fill a buffer read again where a signal interrupts, which here is an error, or keep no count.
 fn read_image<R: Read>(input: &mut R, image: &mut [u8]) -> io::Result<Option<usize>>
     ensures { IfOk result (λ given. IfSome given (λ n. n ≤ length image.new)) }
 {
