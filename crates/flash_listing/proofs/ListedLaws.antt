@@ -1,6 +1,6 @@
 -- The kept ones of the blocks that a pass has before it, and the list of those that it has passed. Assumes nothing.
 use Prim.Native.Nat.{ℕ, zero, suc, ◌+◌, ◌-◌, ◌≤◌, ◌<◌}
-use mathlib.Core.Path.{◌≡◌, refl, sym, ap, ◌∙◌}
+use mathlib.Core.Path.{◌≡◌, refl, sym, ap, subst, ◌∙◌}
 use mathlib.Core.Bool.{Bool, true, false, cond}
 use mathlib.Core.List.{List, [], ◌∷◌, ◌++◌, append_assoc, append-nil}
 use native.Mathlib.Omega.{arith}
@@ -12,7 +12,7 @@ use Rattle.flash_model.specs.Measures.{capacity}
 use Rattle.flash_model.specs.UserBlock.{number}
 use Rattle.flash_model.specs.Partition.{block_at}
 use Rattle.flash_listing.specs.BlockTests.{is_new, mark, is_kept, kept_blocks}
-use Rattle.flash_listing.specs.Passing.{PassAt, PassedTo, Passed, left_and_listed, MarksAdded}
+use Rattle.flash_listing.specs.Passing.{PassAt, PassedTo, Passed, passed, left_and_listed, MarksAdded}
 use Rattle.flash_listing.specs.declared.Progress.{Progress}
 use Rattle.flash_partition.specs.declared.partition.Partition.{Partition}
 use Rattle.flash_listing.proofs.LeftLaws.{added_none, added_then, grown-none, grown-then, grown-stored}
@@ -47,7 +47,10 @@ kept-split marks marks' image (suc k) r low same e =
     go true = refl
     go false = refl
 
-module _ {marks : List ℕ} {p : Partition} {k : ℕ} (low : 1 ≤ k) (f : PassAt marks p k) {part : List ℕ} {end : ℕ} (q : part ≡ block_at p.image.now k) (c : end ≡ capacity p.log.m.size) where
+module _ {marks : List ℕ} {p : Partition} {k : ℕ} (low : 1 ≤ k) (f : PassAt marks p k) {part : List ℕ} {i end : ℕ} (is-k : i ≡ k) (at-i : part ≡ block_at p.image.now i) (c : end ≡ capacity p.log.m.size) where
+  q : part ≡ block_at p.image.now k
+  q = at-i ∙ ap (block_at p.image.now) is-k
+
   pub known-next : is_new end part marks ≡ false → PassedTo marks p k (k - 1)
   known-next e =
       let here : is_new (capacity p.log.m.size) (block_at p.image.now k) marks ≡ false = rw (sym q, sym c) e in
@@ -157,14 +160,20 @@ module _ {listed : Bool} {p : Partition} where
       grown = x.grown;
     }
 
+    -- no block is left
+    pub passed-end : to.at ≤ 0 → Passed listed p marks₁ kept₁ from marks₂ kept₂ (passed to.count)
+    passed-end z =
+        let none : to.at ≡ 0 = omega arith in
+        subst (λ (n : ℕ). Passed listed p marks₁ kept₁ from marks₂ kept₂ (record { at = n; count = to.count })) none x
+
     -- one that is, and is stored if blocks are listed
-    pub passed-marked : {part marks' kept' : List ℕ} {end r : ℕ} → 1 ≤ to.at → part ≡ block_at p.image.now to.at → end ≡ capacity p.log.m.size
+    pub passed-marked : {part marks' kept' : List ℕ} {i end r : ℕ} → 1 ≤ to.at → i ≡ to.at → part ≡ block_at p.image.now i → end ≡ capacity p.log.m.size
         → is_new end part marks₂ ≡ true → (r ≡ mark part) × (r ≤ 1) → marks' ≡ set marks₂ (number part) r
         → from.count + from.at ≤ capacity p.log.m.size → (listed ≡ true → capacity p.log.m.size ≤ length kept₁)
-        → (listed ≡ true → kept' ≡ set kept₂ (length kept₂ - to.count - 1) to.at) → length kept' ≡ length kept₂
+        → (listed ≡ true → kept' ≡ set kept₂ (length kept₂ - to.count - 1) i) → length kept' ≡ length kept₂
         → Passed listed p marks₁ kept₁ from marks' kept' (record { at = to.at - 1; count = to.count + r })
-    passed-marked {part} {marks'} {kept'} {end} {r} low q c e m a few fits stored long =
-        let s = marked_next low x.pass_at q c e m.0 a in
+    passed-marked {part} {marks'} {kept'} {i} {end} {r} low is-k q c e m a few fits stored long =
+        let s = marked_next low x.pass_at is-k q c e m.0 a in
         record {
           pass_at = s.0;
           no_higher = omega (arith, x.no_higher);
@@ -172,6 +181,6 @@ module _ {listed : Bool} {p : Partition} where
           counted = marked-counted marks₂ marks' p.image.now to.at to.count r s.1 ∙ x.counted;
           added = added_then x.added s.2;
           same_length = long ∙ x.same_length;
-          left = λ l. rw (stored l) (marked-listed marks₂ marks' p.image.now to.at to.count r s.1 kept₂ low (omega (arith, x.room, few, fits l, x.same_length)) m.1 ∙ x.left l);
-          grown = λ l. rw (stored l) (grown-then (x.grown l) (grown-stored to.count r to.at kept₂) x.same_length);
+          left = λ l. rw (stored l, is-k) (marked-listed marks₂ marks' p.image.now to.at to.count r s.1 kept₂ low (omega (arith, x.room, few, fits l, x.same_length)) m.1 ∙ x.left l);
+          grown = λ l. rw (stored l, is-k) (grown-then (x.grown l) (grown-stored to.count r to.at kept₂) x.same_length);
         }

@@ -138,6 +138,10 @@ module _ {image : List ℕ} {log : OpenedLog} (u : Usable image log) (end : ℕ)
           let z : ◌≡◌ {A = ℕ} 0 1 = cc in
           omega arith
 
+  -- the start is past the top
+  pub start-past : (start : ℕ) → end ≤ start → None ≡ lowest_live image start
+  start-past start h = sym (live-none image start (λ n a c. absurd (omega (arith, a, c, h, e, ap capacity u.has_size))))
+
   -- the best is the answer, where none lower has contents
   module _ (start k best : ℕ) (f : k ≤ log.used + 1) (b : BestSoFar image start end k best) where
     answered : ((n : ℕ) → start ≤ n → n < best → contents image n ≡ None) → then_some (ltb best end) best ≡ lowest_live image start

@@ -21,11 +21,6 @@ pub record PassedTo (marks : List ℕ) (p : Partition) (from at : ℕ) : Type 0 
   pub no_higher : at ≤ from
   pub same_left : kept_blocks marks p.image.now at ≡ kept_blocks marks p.image.now from
 
--- It stopped at a block, which may be kept.
-pub record NextNew (marks : List ℕ) (p : Partition) (from at : ℕ) : Type 0 where
-  pub is_block : 0 < at
-  pub passed : PassedTo marks p from at
-
 -- The blocks that are still to be listed, then the list, which is the end of `kept`.
 unfoldable pub left_and_listed : List ℕ → List ℕ → ℕ → ℕ → List ℕ → List ℕ
 left_and_listed marks image k count kept = kept_blocks marks image k ++ drop (length kept - count) kept

@@ -3,12 +3,12 @@
 // One pass over the used blocks for whatever looks at all numbers.
 pub mod places;
 
-ghost use Rattle.std.specs.Prelude.{◌≡◌, true, ◌+◌, ◌≤◌, ◌<◌, length, set, MatchOption};
+ghost use Rattle.std.specs.Prelude.{◌≡◌, true, ◌+◌, ◌≤◌, ◌<◌, length, set};
 ghost use Rattle.flash_model.specs.Measures.{capacity};
 ghost use Rattle.flash_model.specs.UserBlock.{number};
 ghost use Rattle.flash_model.specs.Partition.{live, lowest_live};
 ghost use Rattle.flash_listing.specs.BlockTests.{is_new, mark, lowered};
-ghost use Rattle.flash_listing.specs.Passing.{PassAt, PassedTo, NextNew, Passed, whole, passed, AllListed};
+ghost use Rattle.flash_listing.specs.Passing.{PassAt, PassedTo, Passed, whole, passed, AllListed};
 
 use flash_measures::NUMBERS;
 use flash_partition::blocks::right_checksum;
@@ -37,18 +37,18 @@ fn mark_number(part: &[u8; 64], marks: &mut [u8]) -> usize
     usize::from(mark)
 }
 
-// The highest block not above `from` that is new: those above it are passed.
-fn next_new(p: Partition<'_>, marks: &[u8], from: usize) -> Option<usize>
+// Passes over blocks from `from` downwards as long as they are not new. The answer is where the pass stands then.
+fn pass_known(p: Partition<'_>, marks: &[u8], from: usize) -> usize
     requires { PassAt marks.now p from }
-    ensures { MatchOption result (PassedTo marks.now p.entry from 0) (NextNew marks.now p.entry from) }
+    ensures { PassedTo marks.now p.entry from result }
 {
     let end = p.log.m.capacity();
-    for k in (1..from + 1).rev() {
-        if is_new(p.block(k), end, marks) {
-            return Some(k);
+    for below in (0..from).rev() {
+        if is_new(p.block(below + 1), end, marks) {
+            return below + 1;
         }
     }
-    None
+    0
 }
 
 // Where a pass stands: the blocks up to `at` are still to come, and `count` numbers were marked.
@@ -66,22 +66,22 @@ fn mark_run<const LISTED: bool>(
     kept: &mut [u16],
     reached: Progress,
 ) -> Progress
-    requires pass_at { PassAt marks.old p reached.at }
+    requires pass_at { (0 < reached.at) × PassAt marks.old p reached.at }
     requires bound { reached.count + reached.at ≤ p.log.used }
     requires room { LISTED ≡ true → capacity p.log.m.size ≤ length kept.old }
-    ensures lower { 0 < reached.at → result.at < reached.at }
+    ensures lower { result.at < reached.at }
     ensures passed { Passed LISTED p.entry marks.old kept.old reached marks.new kept.new result }
 {
     let end = p.log.m.capacity();
     let mut count = reached.count;
-    for k in (1..reached.at + 1).rev() {
-        let part = p.block(k);
+    for at in (0..reached.at).rev() {
+        let part = p.block(at + 1);
         if !is_new(part, end, &marks[..]) {
-            return Progress { at: k - 1, count };
+            return Progress { at, count };
         }
         let marked = mark_number(part, marks);
         if LISTED {
-            kept[kept.len() - count - 1] = k as u16;
+            kept[kept.len() - count - 1] = (at + 1) as u16;
         }
         count += marked;
     }
@@ -99,13 +99,11 @@ fn pass<const LISTED: bool>(p: Partition<'_>, marks: &mut [u8], kept: &mut [u16]
         at: p.log.used,
         count: 0,
     };
-    loop {
+    while 0 < reached.at {
         reached = mark_run::<LISTED>(p, marks, kept, reached);
-        let Some(at) = next_new(p, &marks[..], reached.at) else {
-            return reached.count;
-        };
-        reached.at = at;
+        reached.at = pass_known(p, &marks[..], reached.at);
     }
+    reached.count
 }
 
 // How many numbers have contents.
@@ -147,10 +145,13 @@ pub fn next_number(p: Partition<'_>, start: usize) -> Option<usize>
     ensures { result ≡ lowest_live p.entry.image.now start }
 {
     let end = p.log.m.capacity();
+    if end <= start {
+        return None;
+    }
     let mut best = end;
     for k in 1..p.log.used + 1 {
         best = lower(p.block(k), start, best);
-        if best <= start {
+        if best == start {
             break;
         }
     }

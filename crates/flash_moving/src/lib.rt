@@ -28,8 +28,8 @@ pub fn keep_blocks(image: &mut [u8], kept: &[u16]) -> usize
     requires { RisingBlocks 1 (length image.old) kept.now }
     ensures { AllMoved kept.now image.old image.new result }
 {
-    for (i, from) in kept.iter().enumerate() {
-        move_block(image, usize::from(*from), i + 1);
+    for (i, &from) in kept.iter().enumerate() {
+        move_block(image, usize::from(from), i + 1);
     }
     kept.len() + 1
 }
