@@ -1,6 +1,7 @@
 #![tactic(auto)]
 
-// The bitmap of an image: which user blocks are allocated.
+// The bitmap of an image: which user blocks are allocated. An image that is written comes with its measures beside it: `OpenedLog` of
+// flash_partition says why.
 mod runs;
 
 ghost use Rattle.std.specs.Prelude.{◌≡◌, false, ◌+◌, ◌*◌, ◌/◌, ◌≤◌, ◌<◌, length};

@@ -1,6 +1,7 @@
 #![tactic(auto)]
 
-// The compaction, in place: document 01's long way.
+// The compaction, in place: document 01's long way. The image comes with its log beside it: `OpenedLog` says why. Marks and the list of
+// what is kept lie in arrays of fixed size: there is no heap.
 ghost use Rattle.std.specs.Prelude.{◌≡◌, [], ◌∷◌, ◌++◌, ◌≤◌, length};
 ghost use Rattle.flash_model.specs.Measures.{capacity, top_number};
 ghost use Rattle.flash_model.specs.UserBlock.{new_block};

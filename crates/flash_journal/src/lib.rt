@@ -1,6 +1,7 @@
 #![tactic(auto)]
 
-// The journal that a partition is: one block written behind the used ones, and its bitmap bit cleared.
+// The journal that a partition is: one block written behind the used ones, and its bitmap bit cleared. An image that is written comes
+// with its measures beside it: `OpenedLog` of flash_partition says why. A number is a `usize` as in every call, so its bound is asked.
 ghost use Rattle.std.specs.Prelude.{◌≡◌, false, ◌≤◌, ◌<◌, length};
 ghost use Rattle.flash_model.specs.Measures.{capacity};
 ghost use Rattle.flash_model.specs.UserBlock.{new_block};

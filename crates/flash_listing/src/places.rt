@@ -19,8 +19,8 @@ fn enter(part: &[u8; 64], k: usize, end: usize, places: &mut [u16])
     }
 }
 
-// For every logical number the physical block that holds its contents, 0 where there are none, in one pass over the used blocks. Blocks go in
-// falling order, so the first of a number that has a right checksum is the one. Further places stay.
+// For every logical number the physical block that holds its contents, 0 where there are none (block 0 is the header), in one pass over
+// the used blocks: two bytes a number, as the area that request 14 will have lent. Blocks go in falling order, so the first of a number that has a right checksum is the one. Further places stay.
 pub fn find_places(p: Partition<'_>, places: &mut [u16])
     requires { capacity p.log.m.size ≤ length places.old }
     ensures { PlacesOf p.entry.image.now (capacity p.entry.log.m.size) places.old places.new }

@@ -1,6 +1,7 @@
 #![tactic(auto)]
 
-// Blocks of a rising list, moved down to 1, 2, 3 and on; then FF, and the bits of what stands there.
+// Blocks of a rising list, moved down to 1, 2, 3 and on; then FF, and the bits of what stands there. An image that is written comes
+// with its measures beside it: `OpenedLog` of flash_partition says why.
 ghost use Rattle.std.specs.Prelude.{◌≡◌, ◌++◌, ◌+◌, ◌-◌, ◌*◌, ◌≤◌, length, take, replicate};
 ghost use Rattle.flash_model.specs.Measures.{capacity};
 ghost use Rattle.flash_model.specs.Partition.{block_at};

@@ -3,7 +3,9 @@ ghost use Rattle.flash_partition.specs.Usable.{Usable};
 
 use flash_measures::Measures;
 
-// What the opening of a sound partition found: its measures, and how many user blocks are allocated.
+// What the opening of a sound partition found: its measures, and how many user blocks are allocated. A function that writes takes it
+// beside the image, with what is known of both as a clause: a struct that holds the image as `&mut` with a ghost field was tried, and
+// its maker isn't told what the image holds when it is let go.
 #[derive(Clone, Copy)]
 pub struct OpenedLog {
     pub m: Measures,
