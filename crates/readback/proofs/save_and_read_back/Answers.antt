@@ -5,7 +5,8 @@ use borrow.Author.Tests.{eq-eqb, ne_eqb}
 use Rattle.flash_model.specs.Calls.{Call, Reply, code_answer}
 use Rattle.flash_model.specs.Calls.{Call.on_page, Call.on_whole, PageCall.read, PageCall.save, WholeCall.check, WholeCall.report, WholeCall.next_live, WholeCall.erase}
 use Rattle.flash_model.specs.Runs.{Step, Chain}
-use Rattle.flash.specs.Answers.{report_answer, next_answer}
+use Rattle.flash_model.specs.Errors.{result_code, number_answer}
+use Rattle.flash.specs.Answers.{report_answer}
 use Rattle.readback.proofs.OwnPageLaws.{final-read, own-page-back}
 use Rattle.readback.proofs.save_and_read_back.Goals as goal
 
@@ -23,15 +24,15 @@ returns c =
     let i2 = c.save-2.new.image in
     let i3 = c.erase.new.image in
     let left = c.read.new.page in
-    let first = code_answer c.save.result (x ∷ page ∷ []) in
-    let last = code_answer c.read.result (left ∷ []) in
+    let first = code_answer (result_code c.save.result) (x ∷ page ∷ []) in
+    let last = code_answer (result_code c.read.result) (left ∷ []) in
     let steps : List Step =
     made_step (on_page (save p n x page)) first i1
-    ∷ made_step (on_whole (check p)) (code_answer c.check.result []) i1
-    ∷ made_step (on_page (save p a.other page a.others.now)) (code_answer c.save-2.result (page ∷ a.others.now ∷ [])) i2
+    ∷ made_step (on_whole (check p)) (code_answer (result_code c.check.result) []) i1
+    ∷ made_step (on_page (save p a.other page a.others.now)) (code_answer (result_code c.save-2.result) (page ∷ a.others.now ∷ [])) i2
     ∷ made_step (on_whole (report p)) (report_answer c.report.result) i2
-    ∷ made_step (on_whole (next_live p n)) (next_answer c.next_live.result) i2
-    ∷ made_step (on_whole (erase p)) (code_answer c.erase.result []) i3
+    ∷ made_step (on_whole (next_live p n)) (number_answer c.next_live.result []) i2
+    ∷ made_step (on_whole (erase p)) (code_answer (result_code c.erase.result) []) i3
     ∷ made_step (on_page (read p n a.back.now)) last i3
     ∷ [] in
     let linked : Chain a.image.now steps =
