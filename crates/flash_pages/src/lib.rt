@@ -4,6 +4,7 @@
 ghost use Rattle.std.specs.Prelude.{◌≡◌, true, cond, eqb, IfOk, option_copied};
 ghost use Rattle.flash_model.specs.Errors.{result_code};
 ghost use Rattle.flash_model.specs.Measures.{legal_number};
+ghost use Rattle.flash_model.specs.UserBlock.{payload};
 ghost use Rattle.flash_model.specs.Partition.{row, contents};
 ghost use Rattle.flash_model.specs.Update.{append_block, page_written, saved};
 ghost use Rattle.flash_model.specs.Calls.{changed_since, wrong_lengths, read_rows, save_rows};
@@ -13,14 +14,22 @@ ghost use Rattle.flash_pages.specs.Rows.{read_buffer, can_append};
 use flash_model::FlashError;
 use flash_partition::partition::{OpenedLog, Partition};
 
+// The page of a block.
+#[tactic(auto, unfolding(flash_model::specs::UserBlock::payload))]
+pub fn payload(block: &[u8; 64]) -> &[u8; 60]
+    ensures { result.now ≡ payload block.now }
+{
+    block[2..62].as_array().unwrap()
+}
+
 // The page that is the contents of a number, which callers have tested, if there are any.
-#[tactic(auto, using(crate::proofs::ReadLaws::holder_high), unfolding(flash_model::specs::Partition::contents, flash_model::specs::UserBlock::payload))]
+#[tactic(auto, using(crate::proofs::ReadLaws::holder_high), unfolding(flash_model::specs::Partition::contents))]
 pub fn contents<'a>(p: Partition<'a>, number: usize) -> Option<&'a [u8; 60]>
     requires { legal_number p.log.m.size number ≡ true }
     ensures { option_copied result ≡ contents p.entry.image.now number }
 {
     let k = p.find(number)?;
-    p.block(k)[2..62].as_array()
+    Some(payload(p.block(k)))
 }
 
 // Reads the contents of a number into the page: refusals 6, 8 and 7.
