@@ -1,6 +1,4 @@
-pub mod OpeningLaws
-pub mod HeaderLaws
-pub mod DataLaws
-pub mod SearchLaws
 pub mod AnswerLaws
+pub mod HeaderLaws
+pub mod SearchLaws
 pub mod ClaimLaws

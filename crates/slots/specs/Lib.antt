@@ -1,3 +1,3 @@
 pub mod SlotUsable
-pub mod HeaderBlocks
+pub mod Headers
 pub mod SlotAnswers

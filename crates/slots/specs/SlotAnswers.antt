@@ -1,29 +1,16 @@
 -- What the slot calls' answers are as the papers' numbers, values and buffers.
 -- Assumes nothing.
-use Rattle.std.specs.Prelude.{ℕ, zero, suc, cond, List, [], ◌∷◌, eqb}
+use Rattle.std.specs.Prelude.{ℕ, cond, List, eqb}
 use Rattle.std.specs.Prelude.{Option, None, Some}
 use Rattle.flash_model.specs.Partition.{contents}
 use Rattle.flash_model.specs.Slots.{data_number}
-use Rattle.flash_model.specs.Calls.{Reply, code_answer, slot_read_rows, claim_rows, after_pages, calls_made}
+use Rattle.flash_model.specs.Calls.{slot_read_rows, claim_rows, after_pages, calls_made}
 use Rattle.flash_model.specs.Calls.{CompoundCall.claim}
 use Rattle.flash_pages.specs.Rows.{or_buffer}
-use Rattle.slots.specs.declared.GivenSlot.{GivenSlot}
-use Rattle.slots.specs.declared.GivenSlot.TheVariants.{Refused, Hit}
 use Rattle.slots.specs.declared.searches.Searched.{Searched}
 use Rattle.slots.specs.declared.searches.Searched.TheVariants.{Has, Free, Full}
 
--- A slot, or the refusal alone, with these buffers.
-abbrev pub slot_answer : GivenSlot → List (List ℕ) → Reply
-slot_answer (Refused n) lent = code_answer n lent
-slot_answer (Hit slot) lent = record { code = 0; values = slot ∷ []; buffers = lent }
-
 -- ---- past refusals 1 to 5
-
--- The refusal of the rows, or the slot that was found: where the rows let pass there is one.
-abbrev pub slot_or : ℕ → Option ℕ → GivenSlot
-slot_or zero None = Refused 0
-slot_or zero (Some slot) = Hit slot
-slot_or (suc n) found = Refused (suc n)
 
 -- The slot with the product number, else the lowest that is not valid.
 abbrev pub searched_of : Option ℕ → Option ℕ → Searched

@@ -1,85 +1,80 @@
 // Reads and saves of a slot's data blocks, on a partition that refusals 1 to 5 don't apply to.
-ghost use Rattle.std.specs.Prelude.{◌≡◌, cond, ◌≤◌, eqb, length};
-ghost use Rattle.flash_model.specs.Slots.{data_number, valid_slot};
+ghost use Rattle.std.specs.Prelude.{◌≡◌, true, cond, ◌≤◌, eqb, IfOk};
+ghost use Rattle.flash_model.specs.Errors.{result_code};
+ghost use Rattle.flash_model.specs.Measures.{legal_number};
+ghost use Rattle.flash_model.specs.Slots.{data_number, slot_header};
 ghost use Rattle.flash_model.specs.Calls.{slot_rows, slot_read_rows, slot_save_rows};
 ghost use Rattle.flash_model.specs.Update.{saved};
 ghost use Rattle.slots.specs.SlotUsable.{SlotUsable};
 ghost use Rattle.slots.specs.SlotAnswers.{data_buffer};
+ghost use Rattle.slots.specs.Headers.{if_right};
 
 use crate::DataBlock;
-use crate::headers::{HEADER_BYTES, right_header};
-use crate::numbers::slot_number;
-use flash_pages::{read_page, save_page, wrong_lengths};
-use flash_partition::opening::OpenedLog;
+use crate::headers::valid_header;
+use crate::numbers::{SLOTS, slot_number};
+use crate::opening::SlotPartition;
+use flash_model::FlashError;
+use flash_pages::{contents, read_page, save_page, whole_page};
+use flash_partition::partition::{OpenedLog, Partition};
 
-// Whether the slot is valid. `header` is working space: what is left in it is not used.
-fn valid_slot(image: &[u8], log: OpenedLog, slot: usize, header: &mut [u8]) -> bool
-    requires slot_usable { SlotUsable image.now log }
-    requires slot_bound { (slot ≤ 99) × (length header.old ≡ 120) }
-    ensures { result ≡ valid_slot image.now slot }
+// The header of a slot, where it makes the slot valid.
+#[tactic(auto, using(crate::proofs::HeaderLaws::slot_legal), unfolding(flash_model::specs::Slots::slot_header))]
+fn header(slots: SlotPartition<'_>, slot: usize) -> Option<[u8; 120]>
+    requires { slot ≤ 99 }
+    ensures { result ≡ if_right (slot_header slots.entry.partition.image.now slot) }
 {
-    if read_page(image, log, slot_number(slot, 0), &mut header[0..60]) != 0 {
-        return false;
-    }
-    if read_page(image, log, slot_number(slot, 1), &mut header[60..120]) != 0 {
-        return false;
-    }
-    right_header(&header[..])
+    let first = contents(slots.partition, slot_number(slot, 0))?;
+    let second = contents(slots.partition, slot_number(slot, 1))?;
+    valid_header(first, second)
 }
 
-// 42 where the slot is above 99 or not valid, 43 where the block is neither 0 nor 1; else 0.
-fn slot_row(image: &[u8], log: OpenedLog, at: DataBlock) -> u8
-    requires { SlotUsable image.now log }
-    ensures { result ≡ slot_rows image.now at.slot at.block 0 }
+// The logical number of a data block: refusals 42 where the slot is above 99 or not valid, and 43 where the block is neither 0 nor 1.
+#[tactic(auto, using(crate::proofs::HeaderLaws::slot_legal), unfolding(flash_model::specs::Slots::no_slot, flash_model::specs::Slots::no_block, flash_model::specs::Slots::valid_slot, flash_model::specs::Slots::data_number))]
+fn data_number(slots: SlotPartition<'_>, at: DataBlock) -> Result<usize, FlashError>
+    ensures code { result_code result ≡ slot_rows slots.entry.partition.image.now at.slot at.block 0 }
+    ensures number { IfOk result (λ n. (n ≡ data_number at.slot at.block) × (legal_number slots.entry.partition.log.m.size n ≡ true)) }
 {
-    if 99 < at.slot {
-        return 42;
-    }
-    let mut header = [0u8; HEADER_BYTES];
-    if !valid_slot(image, log, at.slot, &mut header) {
-        return 42;
+    if SLOTS <= at.slot || header(slots, at.slot).is_none() {
+        return Err(FlashError::NoSlot);
     }
     if 1 < at.block {
-        return 43;
+        return Err(FlashError::NoDataBlock);
     }
-    0
+    Ok(slot_number(at.slot, 2 + at.block))
 }
 
-// Reads a data block into the page: refusals 8, 42, 43 and 7, or 0.
-pub(crate) fn read_data(image: &[u8], log: OpenedLog, at: DataBlock, page: &mut [u8]) -> u8
-    requires { SlotUsable image.now log }
-    ensures value { result ≡ slot_read_rows image.now at.slot at.block page.old }
-    ensures page_after { page.new ≡ data_buffer image.now at.slot at.block page.old }
+// Reads a data block into the page: refusals 8, 42, 43 and 7.
+#[tactic(auto, unfolding(flash_model::specs::Calls::slot_read_rows, flash_model::specs::Calls::read_rows, crate::specs::SlotAnswers::data_buffer, flash_pages::specs::Rows::read_buffer))]
+pub(crate) fn read_data(
+    slots: SlotPartition<'_>,
+    at: DataBlock,
+    page: &mut [u8],
+) -> Result<(), FlashError>
+    ensures code { result_code result ≡ slot_read_rows slots.entry.partition.image.now at.slot at.block page.old }
+    ensures page_after { page.new ≡ data_buffer slots.entry.partition.image.now at.slot at.block page.old }
 {
     if page.len() != 60 {
-        return 8;
+        return Err(FlashError::BufferLength);
     }
-    let code = slot_row(image, log, at);
-    if code != 0 {
-        return code;
-    }
-    read_page(image, log, slot_number(at.slot, 2 + at.block), page)
+    let number = data_number(slots, at)?;
+    read_page(slots.partition, number, page)
 }
 
-// Saves a page as a data block: refusals 8, 42, 43 and 9, or 0.
+// Saves a page as a data block: refusals 8, 42, 43 and 9.
+#[tactic(auto, unfolding(flash_model::specs::Calls::slot_save_rows, flash_model::specs::Calls::save_rows))]
 pub(crate) fn save_data(
     image: &mut [u8],
     log: OpenedLog,
     at: DataBlock,
     expected: &[u8],
     page: &[u8],
-) -> u8
+) -> Result<(), FlashError>
     requires { SlotUsable image.old log }
-    ensures value { result ≡ slot_save_rows image.old at.slot at.block expected.now page.now }
+    ensures code { result_code result ≡ slot_save_rows image.old at.slot at.block expected.now page.now }
     ensures image_after { image.new ≡ cond (eqb (slot_save_rows image.old at.slot at.block expected.now page.now) 0) (saved image.old (data_number at.slot at.block) page.now) image.old }
 {
-    if wrong_lengths(expected, page) {
-        return 8;
-    }
-    let code = slot_row(&image[..], log, at);
-    if code != 0 {
-        return code;
-    }
-    let number = slot_number(at.slot, 2 + at.block);
+    whole_page(expected, page)?;
+    let partition = Partition { image, log };
+    let number = data_number(SlotPartition { partition }, at)?;
     save_page(image, log, number, expected, page)
 }

@@ -1,55 +1,36 @@
 // A slot's header: the two pages of 60 bytes, one behind the other.
-ghost use Rattle.std.specs.Prelude.{◌≡◌, true, ◌++◌, ◌≤◌, length};
-ghost use Rattle.std.specs.Prelude.{Some};
-ghost use Rattle.flash_model.specs.Measures.{capacity};
-ghost use Rattle.flash_model.specs.Slots.{right_header, is_right};
-ghost use Rattle.flash_measures.specs.HasMeasures.{HasMeasures};
-ghost use Rattle.slots.specs.HeaderBlocks.{header_in};
+ghost use Rattle.std.specs.Prelude.{◌≡◌, ◌++◌, Some};
+ghost use Rattle.flash_model.specs.Slots.{right_header};
+ghost use Rattle.slots.specs.Headers.{if_right};
 
-use flash_measures::Measures;
-use flash_partition::blocks::block_at;
-use words::{copy_page, word};
+use words::word;
 
-pub(crate) const HEADER_BYTES: usize = 120;
+const HEADER_BYTES: usize = 120;
 
-// Copies two pages, one behind the other.
-pub(crate) fn join_pages(first: &[u8], second: &[u8], header: &mut [u8])
-    requires { (length first.now ≡ 60) × (length second.now ≡ 60) × (length header.old ≡ 120) }
-    ensures { header.new ≡ first.now ++ second.now }
+// Two pages, one behind the other.
+fn join_pages(first: &[u8; 60], second: &[u8; 60]) -> [u8; HEADER_BYTES]
+    ensures { result ≡ first.now ++ second.now }
 {
-    copy_page(first, &mut header[0..60]);
-    copy_page(second, &mut header[60..120]);
+    let mut header = [0u8; HEADER_BYTES];
+    header[..60].copy_from_slice(first);
+    header[60..].copy_from_slice(second);
+    header
 }
 
 // Whether the header makes a slot valid.
-pub(crate) fn right_header(header: &[u8]) -> bool
-    requires { length header.now ≡ 120 }
+#[tactic(auto, unfolding(flash_model::specs::Slots::right_header))]
+fn right_header(header: &[u8; HEADER_BYTES]) -> bool
     ensures { result ≡ right_header header.now }
 {
-    if header[0] != 1 {
-        return false;
-    }
-    if header[1] != 255 {
-        return false;
-    }
-    word(header, 112) == checksum::checksum(&header[2..112]) as usize
+    header[0] == 1
+        && header[1] == 255
+        && word(header, 112) == usize::from(checksum::checksum(&header[2..112]))
 }
 
-// Whether the header in these two blocks, 0 being none, makes a slot valid. It is left in `header` where it does.
-pub(crate) fn valid_header(image: &[u8], m: Measures, k: usize, l: usize, header: &mut [u8]) -> bool
-    requires has_measures { HasMeasures image.now m.size }
-    requires k_bound { (k ≤ capacity m.size) × (l ≤ capacity m.size) × (length header.old ≡ 120) }
-    ensures value { result ≡ is_right (header_in image.now k l) }
-    ensures l_value { result ≡ true → header_in image.now k l ≡ Some header.new }
+// The header in two pages, where it makes a slot valid.
+pub(crate) fn valid_header(first: &[u8; 60], second: &[u8; 60]) -> Option<[u8; HEADER_BYTES]>
+    ensures { result ≡ if_right (Some (first.now ++ second.now)) }
 {
-    if k == 0 {
-        return false;
-    }
-    if l == 0 {
-        return false;
-    }
-    let first = block_at(image, m, k);
-    let second = block_at(image, m, l);
-    join_pages(&first[2..62], &second[2..62], header);
-    right_header(&header[..])
+    let header = join_pages(first, second);
+    right_header(&header).then_some(header)
 }

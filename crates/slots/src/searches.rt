@@ -1,22 +1,20 @@
 // The searches over all slots: one pass over the blocks finds the place of every number, then each header is looked at once.
-ghost use Rattle.std.specs.Prelude.{◌≡◌, true, not, ◌<◌, length};
-ghost use Rattle.std.specs.Prelude.{Some};
-ghost use Rattle.words.specs.Lists.{is_some};
-ghost use Rattle.flash_model.specs.Partition.{row};
+ghost use Rattle.std.specs.Prelude.{◌≡◌, ◌<◌, IfOk, Some, option_copied};
+ghost use Rattle.flash_model.specs.Errors.{result_code};
+ghost use Rattle.flash_model.specs.Partition.{contents};
 ghost use Rattle.flash_model.specs.Calls.{find_rows};
-ghost use Rattle.flash_model.specs.Slots.{slot_header, valid_slot, product_slot, free_slot, lowest_valid};
-ghost use Rattle.slots.specs.SlotUsable.{SlotUsable, SlotPlaces};
-ghost use Rattle.slots.specs.SlotAnswers.{searched_of, slot_or};
+ghost use Rattle.flash_model.specs.Slots.{slot_header, product_slot, free_slot, lowest_valid};
+ghost use Rattle.slots.specs.SlotUsable.{SlotPlaces};
+ghost use Rattle.slots.specs.SlotAnswers.{searched_of};
+ghost use Rattle.slots.specs.Headers.{if_right};
 
-use crate::GivenSlot;
-use crate::headers::{HEADER_BYTES, valid_header};
-use crate::numbers::slot_number;
+use crate::headers::valid_header;
+use crate::numbers::{SLOTS, slot_number};
+use crate::opening::SlotPartition;
 use flash_listing::places::find_places;
-use flash_measures::Measures;
-use flash_partition::opening::OpenedLog;
-use words::same;
-
-const SLOTS: usize = 100;
+use flash_model::FlashError;
+use flash_pages::payload;
+use flash_partition::partition::Partition;
 
 // How many logical numbers a partition with slots has.
 const SLOT_PARTITION_NUMBERS: usize = 510;
@@ -29,73 +27,89 @@ pub(crate) enum Searched {
     Full,
 }
 
-// Whether the slot is valid. Its header is left in `header` where it is.
-fn slot_header(image: &[u8], m: Measures, places: &[u16], slot: usize, header: &mut [u8]) -> bool
-    requires slot_places { SlotPlaces image.now m.size places.now }
-    requires slot_bound { (slot < 100) × (length header.old ≡ 120) }
-    ensures value { result ≡ valid_slot image.now slot }
-    ensures slot_value { result ≡ true → slot_header image.now slot ≡ Some header.new }
-{
-    let one = places[slot_number(slot, 0)] as usize;
-    let other = places[slot_number(slot, 1)] as usize;
-    valid_header(image, m, one, other, header)
+// A partition with slots, and for each logical number the block that holds its contents, 0 where there are none.
+#[derive(Drop)]
+struct Places<'a> {
+    partition: Partition<'a>,
+    blocks: [u16; SLOT_PARTITION_NUMBERS],
+    ghost found: { SlotPlaces partition.image.now partition.log.m.size blocks },
+}
+
+impl<'a> Places<'a> {
+    // All places, in one pass over the blocks.
+    #[tactic(auto, using(crate::proofs::HeaderLaws::slot_capacity))]
+    fn of(slots: SlotPartition<'a>) -> Places<'a>
+        ensures { result.partition.image.now ≡ slots.entry.partition.image.now }
+    {
+        let mut blocks = [0u16; SLOT_PARTITION_NUMBERS];
+        find_places(slots.partition, &mut blocks);
+        Places {
+            partition: slots.partition,
+            blocks,
+        }
+    }
+
+    // The contents of a number, if there are any.
+    fn contents(&self, number: usize) -> Option<&'a [u8; 60]>
+        requires { number < 510 }
+        ensures { option_copied result ≡ contents self.entry.now.partition.image.now number }
+    {
+        match self.blocks[number] {
+            0 => None,
+            k => Some(payload(self.partition.block(usize::from(k)))),
+        }
+    }
+
+    // The header of a slot, where it makes the slot valid.
+    #[tactic(auto, unfolding(flash_model::specs::Slots::slot_header))]
+    fn header(&self, slot: usize) -> Option<[u8; 120]>
+        requires { slot < 100 }
+        ensures { result ≡ if_right (slot_header self.entry.now.partition.image.now slot) }
+    {
+        let first = self.contents(slot_number(slot, 0))?;
+        let second = self.contents(slot_number(slot, 1))?;
+        valid_header(first, second)
+    }
 }
 
 // The lowest slot with the product number, and the lowest that is not valid where no slot has it.
-pub(crate) fn search(image: &[u8], log: OpenedLog, product: &[u8]) -> Searched
-    requires { SlotUsable image.now log }
-    ensures { result ≡ searched_of (product_slot image.now product.now) (free_slot image.now) }
+pub(crate) fn search(slots: SlotPartition<'_>, product: &[u8]) -> Searched
+    ensures { result ≡ searched_of (product_slot slots.entry.partition.image.now product.now) (free_slot slots.entry.partition.image.now) }
 {
-    let mut places = [0u16; SLOT_PARTITION_NUMBERS];
-    find_places(image, log, &mut places);
-    let mut header = [0u8; HEADER_BYTES];
-    let mut free = SLOTS;
-    let mut slot: usize = 0;
-    while slot < SLOTS {
-        if slot_header(image, log.m, &places, slot, &mut header) {
-            if same(&header[2..12], product) {
-                return Searched::Has(slot);
-            }
-        } else if free == SLOTS {
-            free = slot;
+    let places = Places::of(slots);
+    let mut free = None;
+    for slot in 0..SLOTS {
+        match places.header(slot) {
+            Some(header) if &header[2..12] == product => return Searched::Has(slot),
+            Some(_) => {}
+            None => free = free.or(Some(slot)),
         }
-        slot += 1;
     }
-    if free == SLOTS {
-        return Searched::Full;
+    match free {
+        Some(slot) => Searched::Free(slot),
+        None => Searched::Full,
     }
-    Searched::Free(free)
 }
 
-// The lowest valid slot with the product number: 8 or 7 where there is none.
-pub(crate) fn find_product(image: &[u8], log: OpenedLog, product: &[u8]) -> GivenSlot
-    requires { SlotUsable image.now log }
-    ensures { result ≡ slot_or (find_rows image.now product.now) (product_slot image.now product.now) }
+// The lowest valid slot with the product number: refusals 8, and 7 where there is none.
+#[tactic(auto, unfolding(flash_model::specs::Calls::find_rows))]
+pub(crate) fn find_product(slots: SlotPartition<'_>, product: &[u8]) -> Result<usize, FlashError>
+    ensures code { result_code result ≡ find_rows slots.entry.partition.image.now product.now }
+    ensures slot { IfOk result (λ slot. product_slot slots.entry.partition.image.now product.now ≡ Some slot) }
 {
     if product.len() != 10 {
-        return GivenSlot::Refused(8);
+        return Err(FlashError::BufferLength);
     }
-    match search(image, log, product) {
-        Searched::Has(slot) => GivenSlot::Hit(slot),
-        Searched::Free(_) => GivenSlot::Refused(7),
-        Searched::Full => GivenSlot::Refused(7),
+    match search(slots, product) {
+        Searched::Has(slot) => Ok(slot),
+        _ => Err(FlashError::NothingThere),
     }
 }
 
-// The lowest valid slot not below `from`: 7 where there is none.
-pub(crate) fn next_valid(image: &[u8], log: OpenedLog, from: usize) -> GivenSlot
-    requires { SlotUsable image.now log }
-    ensures { result ≡ slot_or (row 7 (not (is_some (lowest_valid image.now from))) 0) (lowest_valid image.now from) }
+// The lowest valid slot not below `from`.
+pub(crate) fn next_valid(slots: SlotPartition<'_>, from: usize) -> Option<usize>
+    ensures { result ≡ lowest_valid slots.entry.partition.image.now from }
 {
-    let mut places = [0u16; SLOT_PARTITION_NUMBERS];
-    find_places(image, log, &mut places);
-    let mut header = [0u8; HEADER_BYTES];
-    let mut slot = from;
-    while slot < SLOTS {
-        if slot_header(image, log.m, &places, slot, &mut header) {
-            return GivenSlot::Hit(slot);
-        }
-        slot += 1;
-    }
-    GivenSlot::Refused(7)
+    let places = Places::of(slots);
+    (from..SLOTS).find(|slot| places.header(*slot).is_some())
 }

@@ -1,5 +1,6 @@
-use Rattle.slots.proofs.HeaderLaws.{joined-pages}
+use mathlib.Core.Path.{refl}
+use Rattle.slots.proofs.HeaderLaws.{joined_pages}
 use Rattle.slots.proofs.headers.join_pages.Goals as goal
 
 pub returns : goal.returns
-returns c = joined-pages c.args.header.now c.args.first.now c.args.second.now c.requires.2 c.requires.0 c.copy_page.ensures c.copy_page-2.ensures
+returns c = joined_pages _ refl c.told-first c.copy_from_slice.ensures.after c.copy_from_slice-2.ensures.after

@@ -1,43 +1,30 @@
-use Prim.Native.Nat.{ℕ, ◌+◌}
-use mathlib.Core.Path.{refl, sym, subst, ◌∙◌}
-use native.Mathlib.Omega.{arith}
-use Rattle.slots.specs.SlotUsable.{SlotPlaces}
-use Rattle.slots.proofs.SearchLaws.{capacity-is, slot-places, by_product, SearchAt, search-first, found, next-valid, first-free, more-free, none_free, one_free}
+use mathlib.Core.Path.{sym, ◌∙◌}
+use Rattle.slots.proofs.SearchLaws.{right_there, none_there, search_first, found, next_valid, next_free, searched}
 use Rattle.slots.proofs.searches.search.Goals as goal
-use Rattle.slots.proofs.searches.search.Goals.{then-slot_header+else-same, else-slot_header+then-free-eq-SLOTS, else-slot_header+else-free-eq-SLOTS}
-
-pub find_places-requires : goal.find_places-requires
-find_places-requires c = record { usable = c.requires.is_usable; size_in_bounds = omega (arith, capacity-is c.requires) }
+use Rattle.slots.proofs.searches.search.Goals.{in-Some+else-eq, in-None}
 
 pub loop-slot-init : goal.loop-slot-init
-loop-slot-init c = (search-first _ _, refl)
+loop-slot-init c = search_first _ _
 
-pub slot_header-requires : goal.slot_header-requires
-slot_header-requires c =
-    let placed : SlotPlaces c.args.image.now c.args.log.m.size c.find_places.new.places = slot-places c.requires refl c.find_places.ensures in
-    record { slot_places = placed; slot_bound = (c.loop-slot-test.true, c.loop-slot.invariant.1) }
-
-pub returns-then-same : goal.returns-then-same
-returns-then-same c =
-    let valid = sym c.slot_header.ensures.value ∙ c.if-slot_header.true in
-    found _ _ c.loop-slot.invariant.0 c.loop-slot-test.true (by_product _ _ _ valid (c.slot_header.ensures.slot_value c.if-slot_header.true) (sym c.same.ensures ∙ c.if-same.true))
+pub returns-in-Some : goal.returns-in-Some
+returns-in-Some c =
+    let there = right_there _ c.args.product.now _ _ c.in-Some.ensures in
+    rw (sym c.of-places.ensures) (found _ _ c.loop-slot.invariant c.loop-slot-test.true (there.1 ∙ sym c.eq.ensures ∙ c.if-eq.true))
 
 pub loop-slot-preserved : goal.loop-slot-preserved
 loop-slot-preserved c =
-    let a = c.args in
-    let at = c.loop-slot.invariant.0 in
-    let low = c.loop-slot-test.true in
-    let told = sym c.slot_header.ensures.value in
-    let on : ℕ → Type 0 = λ f. SearchAt a.image.now a.product.now f (c.loop-slot.slot + 1) in
-    let next : on c.if-slot_header.free = elim c.if-slot_header.branch [
-      | then-slot_header+else-same w ↦ let t = told ∙ w.if-slot_header.true in subst on (sym w.free-is) (next-valid _ _ at low t (by_product _ _ _ t (c.slot_header.ensures.slot_value w.if-slot_header.true) (sym w.same.ensures ∙ w.if-same.false)))
-      | else-slot_header+then-free-eq-SLOTS w ↦ subst on (sym w.free-is) (first-free _ _ at low (told ∙ w.if-slot_header.false) w.if-free-eq-SLOTS.true)
-      | else-slot_header+else-free-eq-SLOTS w ↦ subst on (sym w.free-is) (more-free _ _ at low (told ∙ w.if-slot_header.false) w.if-free-eq-SLOTS.false)
-    ] in
-    (next, c.slot_header.auto.header ∙ c.loop-slot.invariant.1)
+    let at = c.loop-slot.invariant in
+    let low = c.loop-slot-test.true in elim c.match-header.branch [
+      | in-Some+else-eq w ↦
+          let there = right_there _ c.args.product.now _ _ w.in-Some.ensures in
+          rw w.free-is (next_valid _ _ at low there.0 (there.1 ∙ sym w.eq.ensures ∙ w.if-eq.false))
+      | in-None w ↦
+          let there = none_there _ c.args.product.now _ w.in-None.ensures in
+          rw (w.free-is, w.or-free.ensures) (next_free _ _ at low there.0 there.1)
+    ]
 
-pub returns-then-free-eq-SLOTS-2 : goal.returns-then-free-eq-SLOTS-2
-returns-then-free-eq-SLOTS-2 c = none_free _ _ c.loop-slot.invariant.0 c.loop-slot-test.false c.if-free-eq-SLOTS-2.true
+pub returns-in-Some-free : goal.returns-in-Some-free
+returns-in-Some-free c = rw (sym c.of-places.ensures) (searched _ _ c.loop-slot.invariant c.loop-slot-test.false c.in-Some-free.is)
 
-pub returns : goal.returns
-returns c = one_free _ _ c.loop-slot.invariant.0 c.loop-slot-test.false c.if-free-eq-SLOTS-2.false
+pub returns-in-None-free : goal.returns-in-None-free
+returns-in-None-free c = rw (sym c.of-places.ensures) (searched _ _ c.loop-slot.invariant c.loop-slot-test.false c.in-None-free.is)
