@@ -14,15 +14,18 @@ use words::byte_list::ByteList;
 // The numbers of the used entries.
 pub type UsedEntries = ByteList<208>;
 
-// Lists the used entries, with no step that depends on a branch.
+// Lists the used entries. Each entry is put behind the list and counted where it is used: no step depends on a branch, and the
+// count stays in a register, where a list behind a reference would keep it in memory.
 pub fn list_used(card: &[u8; LENGTH]) -> UsedEntries
     ensures { Listed (directory_of card.now) 208 result (length result) }
 {
-    let mut used = UsedEntries::new();
+    let mut numbers = [0; 208];
+    let mut count = 0;
     for i in 0..208 {
-        used.push_if(i as u8, is_used(entry_at(card, i)));
+        numbers[count] = i as u8;
+        count += usize::from(is_used(entry_at(card, i)));
     }
-    used
+    UsedEntries::of(numbers, count)
 }
 
 // Refusal 26, of the first wrong entry of the list.

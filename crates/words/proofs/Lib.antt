@@ -11,3 +11,4 @@ pub mod BigLaws
 pub mod LittleLaws
 pub mod SameLaws
 pub mod ChunkLaws
+pub mod KeptLaws

@@ -1,5 +1,5 @@
 // A list of bytes in memory of its own: at most N of them.
-ghost use Rattle.std.specs.Prelude.{◌≡◌, cond, ◌+◌, ◌≤◌, ◌<◌, [], ◌∷◌, ◌++◌, length};
+ghost use Rattle.std.specs.Prelude.{◌≡◌, ◌+◌, ◌≤◌, [], ◌++◌, length, take};
 
 use std::marker::Model;
 
@@ -30,6 +30,14 @@ impl<const N: usize> ByteList<N> {
         }
     }
 
+    // The bytes in the first `len` places.
+    pub fn of(bytes: [u8; N], len: usize) -> ByteList<N>
+        requires { len ≤ N }
+        ensures { result ≡ take len bytes.entry }
+    {
+        ByteList { bytes, len }
+    }
+
     pub fn as_slice(&self) -> &[u8]
         ensures { result.now ≡ self.now }
     {
@@ -45,14 +53,5 @@ impl<const N: usize> ByteList<N> {
         let bytes = &mut self.bytes[..];
         bytes[self.len..end].copy_from_slice(piece);
         self.len = end;
-    }
-
-    // A byte behind the others, where the test holds. It is stored in any case, so that no step depends on a branch.
-    pub fn push_if(&mut self, byte: u8, kept: bool)
-        requires { length self.old < N }
-        ensures { self.new ≡ cond kept (self.old ++ byte ∷ []) self.old }
-    {
-        self.bytes[self.len] = byte;
-        self.len += usize::from(kept);
     }
 }

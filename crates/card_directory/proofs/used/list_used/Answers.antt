@@ -1,17 +1,24 @@
-use Rattle.std.proofs.Common.{arith, sym, ap, ◌≡◌, ◌∙◌}
+use Rattle.std.proofs.Common.{◌≡◌, arith, sym, ap, ◌∙◌}
+use lib.ListN.{length-set}
+use Rattle.words.proofs.KeptLaws.{one-at-most, stored-kept}
 use Rattle.card_model.specs.Entries.{is_used}
 use Rattle.card_directory.proofs.ListedLaws.{listed_pushed}
 use Rattle.card_directory.proofs.used.list_used.Goals as goal
 
-pub push_if-requires : goal.push_if-requires
-push_if-requires c = omega (arith, c.loop-i.invariant.fits)
-
 pub loop-i-preserved : goal.loop-i-preserved
 loop-i-preserved c =
+    let l = c.loop-i in
+    let t = c.is_used.result in
     let used = sym (ap is_used c.entry_at.ensures) ∙ sym c.is_used.ensures in
-    rw c.push_if.ensures (listed_pushed _ c.loop-i.i c.loop-i.invariant c.is_used.result used)
+    record {
+      long = length-set l.numbers l.count l.i ∙ l.invariant.long;
+      room = omega (arith, l.invariant.room, c.from-count.ensures, one-at-most t);
+      listed =
+          rw (c.from-count.ensures, stored-kept l.numbers l.count l.i t (omega (arith, l.invariant.long, l.invariant.room)))
+          (listed_pushed _ l.i l.invariant.listed t used);
+    }
 
 pub returns : goal.returns
 returns c =
     let z : c.loop-i.i ≡ 208 = omega arith in
-    rw z at c.loop-i.invariant
+    rw c.of.ensures (rw z at c.loop-i.invariant.listed)
