@@ -30,8 +30,8 @@ use verdicts::{CardError, Place, Rule};
 pub fn check(card: &[u8]) -> Result<usize, CardError>
     ensures { check_answer result ≡ check_of card.now }
 {
-    let Opened { card, marks, .. } = open(card)?;
-    Ok(count_orphans(card, &marks))
+    let sound = open(card)?;
+    Ok(count_orphans(sound.card, &sound.marks))
 }
 
 // Entry i, from its own bytes.
