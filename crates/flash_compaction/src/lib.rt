@@ -2,8 +2,8 @@
 
 // The compaction, in place: document 01's long way. The image comes with its log beside it: `OpenedLog` says why. Marks and the list of
 // what is kept lie in arrays of fixed size: there is no heap.
-ghost use Rattle.std.specs.Prelude.{◌≡◌, [], ◌∷◌, ◌++◌, ◌≤◌, length};
-ghost use Rattle.flash_model.specs.Measures.{capacity, top_number};
+ghost use Rattle.std.specs.Prelude.{◌≡◌, [], ◌∷◌, ◌++◌, ◌≤◌};
+ghost use Rattle.flash_model.specs.Measures.{top_number};
 ghost use Rattle.flash_model.specs.UserBlock.{new_block};
 ghost use Rattle.flash_model.specs.Update as model;
 ghost use Rattle.flash_partition.specs.Usable.{Usable};
@@ -17,17 +17,16 @@ use flash_moving::{blank_rest, keep_blocks};
 use flash_partition::partition::{OpenedLog, Partition};
 
 // The contents of each number that has no mark, moved down to 1, 2, 3 and on. The answer is the next block to fill.
-fn keep_contents(image: &mut [u8], log: OpenedLog, marks: &mut [u8]) -> usize
-    requires usable { Usable image.old log }
-    requires size_in_bounds { capacity log.m.size ≤ length marks.old }
+fn keep_contents(image: &mut [u8], log: OpenedLog, marks: &mut [u8; NUMBERS]) -> usize
+    requires { Usable image.old log }
     ensures { AllMoved (kept_blocks marks.old image.old log.used) image.old image.new result }
 {
     let mut kept = [0u16; NUMBERS];
-    let part = Partition {
+    let p = Partition {
         image: &image[..],
         log,
     };
-    let count = list_kept(part, marks, &mut kept);
+    let count = list_kept(p, marks, &mut kept);
     keep_blocks(image, &kept[NUMBERS - count..])
 }
 

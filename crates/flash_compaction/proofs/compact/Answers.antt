@@ -2,7 +2,7 @@ use Prim.Native.Nat.{ℕ, ◌≤◌, ◌<◌}
 use mathlib.Core.Path.{◌≡◌, refl, ◌∙◌}
 use mathlib.Core.List.{List}
 use native.Mathlib.Omega.{arith}
-use lib.ListN.{length, set, length-set}
+use lib.ListN.{length, set}
 use Rattle.flash_model.specs.Measures.{capacity, top_number}
 use Rattle.flash_model.proofs.MeasureLaws.{capacity-most}
 use Rattle.flash_partition.specs.Usable.{Usable}
@@ -25,9 +25,6 @@ module _ {image : List ℕ} {log : OpenedLog} (u : Usable image log) {n : ℕ} (
 
 pub bounds-marks-number : goal.bounds-marks-number
 bounds-marks-number c = inside c.requires.usable c.requires.number_bound
-
-pub keep_contents-next-requires : goal.keep_contents-next-requires
-keep_contents-next-requires c = record { usable = c.requires.usable; size_in_bounds = simp length-set (capacity-most c.args.log.m.size (usable-legal c.requires.usable)) }
 
 pub write_block_at-requires : goal.write_block_at-requires
 write_block_at-requires c =

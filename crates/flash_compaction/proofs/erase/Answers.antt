@@ -1,13 +1,9 @@
 use mathlib.Core.Path.{◌∙◌}
 use native.Mathlib.Omega.{arith}
-use Rattle.flash_model.proofs.MeasureLaws.{capacity-most}
-use Rattle.flash_partition.proofs.UsableLaws.{usable-legal, usable-has}
+use Rattle.flash_partition.proofs.UsableLaws.{usable-has}
 use Rattle.flash_listing.proofs.NoMarksLaws.{none_marked}
 use Rattle.flash_compaction.proofs.CompactionLaws.{erase-low, erase-high, erase-is}
 use Rattle.flash_compaction.proofs.erase.Goals as goal
-
-pub keep_contents-next-requires : goal.keep_contents-next-requires
-keep_contents-next-requires c = record { usable = c.requires; size_in_bounds = capacity-most c.args.log.m.size (usable-legal c.requires) }
 
 pub blank_rest-requires : goal.blank_rest-requires
 blank_rest-requires c =
