@@ -114,9 +114,6 @@ module _ (marks image kept : List ℕ) where
 
 -- ---- the pass
 
-pub known-start : {marks : List ℕ} {p : Partition} {k : ℕ} → PassAt marks p k → PassedTo marks p k k
-known-start f = record { pass_at = f; no_higher = omega arith; same_left = refl }
-
 pub known-then : {marks : List ℕ} {p : Partition} {a b d : ℕ} → PassedTo marks p a b → PassedTo marks p b d → PassedTo marks p a d
 known-then x y = record { pass_at = y.pass_at; no_higher = omega (arith, x.no_higher, y.no_higher); same_left = y.same_left ∙ x.same_left }
 

@@ -6,7 +6,6 @@ use mathlib.Core.List.{List}
 use Rattle.std.specs.Prelude.{Some}
 use mathlib.Core.Logic.{◌⊎◌, inl, inr}
 use native.Mathlib.Omega.{arith}
-use Rattle.std.specs.Int.{from_bool}
 use native.Mathlib.Decide.{ℕ_discrete}
 use lib.Dec.{eqb, ltb}
 use lib.ListN.{length, get_or, set, length-set}
@@ -25,11 +24,6 @@ use Rattle.flash_partition.specs.declared.partition.Partition.{Partition}
 use Rattle.flash_partition.proofs.UsableLaws.{usable-measured, count_most, holder-some}
 use Rattle.flash_listing.specs.BlockTests.{is_new, mark, is_kept}
 use Rattle.flash_listing.specs.Passing.{PassAt, MarksAdded}
-
-pub mark-is : (block : List ℕ) (t : Bool) (r : ℕ) → right_checksum block ≡ t → r ≡ from_bool t → (r ≡ mark block) × (r ≤ 1)
-unfolding mark
-mark-is block true r q e = (e ∙ rw q, omega (arith, e))
-mark-is block false r q e = (e ∙ rw q, omega (arith, e))
 
 -- ---- a block that is new
 

@@ -1,17 +1,16 @@
 -- The lowest live number, as blocks are passed one after the other. Assumes nothing.
 use Prim.Native.Nat.{ℕ, ◌+◌, ◌≤◌, ◌<◌}
 use mathlib.Core.Path.{◌≡◌, refl, sym, ap, subst, ◌∙◌}
-use mathlib.Core.Bool.{Bool, true, false, cond, ◌&&◌, ◌||◌, and-false, true≢false}
+use mathlib.Core.Bool.{Bool, true, false, cond, ◌&&◌, and-false, true≢false}
 use mathlib.Core.List.{List}
 use Rattle.std.specs.Prelude.{Option, None, Some, option_map}
-use mathlib.Core.Logic.{◌≢◌, ◌⊎◌, inl, inr}
+use mathlib.Core.Logic.{◌≢◌}
 use native.Mathlib.Omega.{arith}
 use native.Mathlib.Decide.{ℕ_discrete}
 use lib.Dec.{eqb, ltb, leb}
 use Rattle.std.specs.Bool.{then_some}
-use borrow.Author.Tests.{ne_eqb, eq-eqb, ltb-true, ltb-false, leb-true, leb-false, lt-ltb, le-ltb, lt-leb, le-leb}
+use borrow.Author.Tests.{ne_eqb, eq-eqb, ltb-true, ltb-false, leb-true, leb-false, lt-ltb}
 use Rattle.words.specs.Search.{highest}
-use Rattle.words.proofs.Bools.{or-true-either, or-false-left, or-false-right}
 use Rattle.words.proofs.SearchLaws.{highest-nothing, highest-none}
 use Rattle.flash_model.specs.Measures.{capacity, legal_number}
 use Rattle.flash_model.specs.UserBlock.{number, payload, right_checksum}
@@ -22,27 +21,6 @@ use Rattle.flash_partition.specs.Usable.{Usable}
 use Rattle.flash_partition.specs.declared.partition.OpenedLog.{OpenedLog}
 use Rattle.flash_listing.specs.BlockTests.{lowered}
 use Rattle.flash_partition.proofs.UsableLaws.{usable-measured, holder-some}
-
--- ---- one block
-
-module _ (start best n : ℕ) (block : List ℕ) (e : number block ≡ n) where
-  -- its number is below the start, or no lower than the best
-  pub lowered-passed : (ltb n start || leb best n) ≡ true → best ≡ lowered start block best
-  unfolding lowered
-  lowered-passed t = go (or-true-either (ltb n start) (leb best n) t)
-    where
-      go : (ltb n start ≡ true) ⊎ (leb best n ≡ true) → best ≡ lowered start block best
-      go (inl b) = rw (e, lt-leb start n (ltb-true n start b))
-      go (inr b) = rw (e, le-ltb n best (leb-true best n b), and-false)
-
-  pub lowered-taken : (ltb n start || leb best n) ≡ false → right_checksum block ≡ true → n ≡ lowered start block best
-  unfolding lowered
-  lowered-taken t r =
-      rw (e, le-leb start n (ltb-false n start (or-false-left (ltb n start) (leb best n) t)), lt-ltb n best (leb-false best n (or-false-right (ltb n start) (leb best n) t)), r)
-
-  pub lowered-wrong : right_checksum block ≡ false → best ≡ lowered start block best
-  unfolding lowered
-  lowered-wrong r = rw (r, and-false, and-false)
 
 -- ---- all blocks passed so far
 
@@ -59,14 +37,6 @@ pub record BestSoFar (image : List ℕ) (start end k best : ℕ) : Type 0 where
   pub not_below : best < end → start ≤ best
   pub is_seen : best < end → Seen image k best
   pub none_lower : (n j : ℕ) → start ≤ n → n < best → 1 ≤ j → j < k → copy_at image n j ≡ false
-
-pub best-first : (image : List ℕ) (start end : ℕ) → BestSoFar image start end 1 end
-best-first image start end = record {
-  bound = omega arith;
-  not_below = λ h. absurd (omega arith);
-  is_seen = λ h. absurd (omega arith);
-  none_lower = λ n j a b c d. absurd (omega arith);
-}
 
 module _ (image : List ℕ) (start end k best : ℕ) (b : BestSoFar image start end k best) where
   abbrev block : List ℕ

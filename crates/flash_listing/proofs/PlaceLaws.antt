@@ -7,10 +7,8 @@ use Rattle.std.specs.Prelude.{Some}
 use mathlib.Core.Logic.{◌≢◌}
 use native.Mathlib.Omega.{arith}
 use native.Mathlib.Decide.{ℕ_discrete}
-use lib.Dec.{ltb}
 use lib.ListN.{length, get_or, take, drop, set, replicate, length-set, length-append, length-drop, length-replicate, get_or-replicate, get_or-append}
 use lib.Seq.{get_or-set_same, get_or-set_other, drop-set-lt, drop_at, length-take-le}
-use borrow.Author.Tests.{ne_eqb, le-ltb, lt-ltb}
 use Rattle.flash_model.specs.Measures.{capacity}
 use Rattle.flash_partition.specs.declared.partition.Partition.{Partition}
 use Rattle.flash_model.specs.UserBlock.{number, right_checksum}
@@ -19,27 +17,6 @@ use Rattle.flash_listing.specs.BlockTests.{is_new}
 use Rattle.flash_listing.specs.Passing.{PassAt}
 use Rattle.flash_listing.specs.NumberPlaces.{place_of, entered, PlacesOf}
 use Rattle.flash_listing.proofs.MarkLaws.{passed-at, passed-wrong, stored, held-here, new-below}
-
--- ---- one block
-
-module _ (end : ℕ) (block : List ℕ) (k : ℕ) (places : List ℕ) where
-  pub not_below : end ≤ number block → places ≡ entered end block k places
-  unfolding entered is_new
-  not_below h = rw (le-ltb (number block) end h)
-
-  pub has-place : get_or places (number block) 0 ≢ 0 → places ≡ entered end block k places
-  unfolding entered is_new
-  has-place h = rw (ne_eqb (get_or places (number block) 0) 0 h, and-false (ltb (number block) end))
-
-  pub not_right : right_checksum block ≡ false → places ≡ entered end block k places
-  unfolding entered
-  not_right e = rw (e, and-false (is_new end block places))
-
-  pub is-entered : number block < end → get_or places (number block) 0 ≡ 0 → right_checksum block ≡ true → set places (number block) k ≡ entered end block k places
-  unfolding entered is_new
-  is-entered h z e = rw (lt-ltb (number block) end h, z, e)
-
--- ---- the pass
 
 -- the places that are not 0 are right, and further ones are as they were
 pub record Placed (image : List ℕ) (end : ℕ) (cleared places : List ℕ) : Type 0 where

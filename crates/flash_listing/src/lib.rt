@@ -17,6 +17,7 @@ use words::word;
 
 // Whether the block that the part is may hold the contents of its number: that is below `end` and has no mark. No checksum is
 // worked for one that may not.
+#[tactic(auto, unfolding(crate::specs::BlockTests::is_new, flash_model::specs::UserBlock::number))]
 fn is_new(part: &[u8; 64], end: usize, marks: &[u8]) -> bool
     requires { end ≤ length marks.now }
     ensures { result ≡ is_new end part.now marks.now }
@@ -27,6 +28,7 @@ fn is_new(part: &[u8; 64], end: usize, marks: &[u8]) -> bool
 
 // Marks the number of the block that the part is, which has no mark, if the checksum is right. The mark, 1 or 0, is stored in
 // any case: no branch waits for the checksum. The answer is how many numbers were marked.
+#[tactic(auto, unfolding(crate::specs::BlockTests::mark, flash_model::specs::UserBlock::number))]
 fn mark_number(part: &[u8; 64], marks: &mut [u8]) -> usize
     requires { number part.now < length marks.old }
     ensures value { (result ≡ mark part.now) × (result ≤ 1) }
@@ -126,6 +128,7 @@ pub fn list_kept(p: Partition<'_>, marks: &mut [u8], kept: &mut [u16]) -> usize
 // The lower of `best` and the number of the block that this part is, if that is not below the start and the checksum is
 // right, which is worked only where the number would be the new best. One test decides that: two took longer where numbers stand
 // in any order.
+#[tactic(auto, unfolding(crate::specs::BlockTests::lowered, flash_model::specs::UserBlock::number))]
 fn lower(part: &[u8; 64], start: usize, best: usize) -> usize
     ensures { result ≡ lowered start part.now best }
 {

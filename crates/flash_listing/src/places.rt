@@ -9,6 +9,7 @@ use words::word;
 
 // Enters block k, which the part is, as the place of its number, if that is below `end` and has none, and the checksum is right. No
 // checksum is worked for an older copy.
+#[tactic(auto, unfolding(crate::specs::NumberPlaces::entered, crate::specs::BlockTests::is_new, flash_model::specs::UserBlock::number))]
 fn enter(part: &[u8; 64], k: usize, end: usize, places: &mut [u16])
     requires { (end ≤ length places.old) × (k < 65536) }
     ensures { places.new ≡ entered end part.now k places.old }

@@ -55,9 +55,6 @@ pub record Conserved (kept start : List ℕ) (i : ℕ) (image : List ℕ) : Type
   pub rising : RisingBlocks (i + 1) (length start) (drop i kept)
   pub front_is : take ((i + 1) * 64) image ++ concat (map (block_at image) (drop i kept)) ≡ take 64 start ++ concat (map (block_at start) kept)
 
-pub conserved-start : (kept start : List ℕ) → RisingBlocks 1 (length start) kept → Conserved kept start 0 start
-conserved-start kept start r = record { same_length = refl; rising = r; front_is = refl }
-
 module _ (kept start : List ℕ) (i : ℕ) (image : List ℕ) (c : Conserved kept start i image) (more : i < length kept) where
   abbrev k : ℕ
   k = get_or kept i 0
