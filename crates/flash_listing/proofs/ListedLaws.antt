@@ -1,6 +1,6 @@
 -- The kept ones of the blocks that a pass has before it, and the list of those that it has passed. Assumes nothing.
 use Prim.Native.Nat.{ℕ, zero, suc, ◌+◌, ◌-◌, ◌≤◌, ◌<◌}
-use mathlib.Core.Path.{◌≡◌, refl, sym, ap, subst, ◌∙◌}
+use mathlib.Core.Path.{◌≡◌, refl, sym, ap, ◌∙◌}
 use mathlib.Core.Bool.{Bool, true, false, cond}
 use mathlib.Core.List.{List, [], ◌∷◌, ◌++◌, append_assoc, append-nil}
 use native.Mathlib.Omega.{arith}
@@ -12,7 +12,7 @@ use Rattle.flash_model.specs.Measures.{capacity}
 use Rattle.flash_model.specs.UserBlock.{number}
 use Rattle.flash_model.specs.Partition.{block_at}
 use Rattle.flash_listing.specs.BlockTests.{is_new, mark, is_kept, kept_blocks}
-use Rattle.flash_listing.specs.Passing.{PassAt, PassedTo, Passed, passed, left_and_listed, MarksAdded}
+use Rattle.flash_listing.specs.Passing.{PassAt, PassedTo, Passed, left_and_listed, MarksAdded}
 use Rattle.flash_listing.specs.declared.Progress.{Progress}
 use Rattle.flash_partition.specs.declared.partition.Partition.{Partition}
 use Rattle.flash_listing.proofs.LeftLaws.{added_none, added_then, grown-none, grown-then, grown-stored}
@@ -156,12 +156,6 @@ module _ {listed : Bool} {p : Partition} where
       left = λ e. rw y.same_left (x.left e);
       grown = x.grown;
     }
-
-    -- no block is left
-    pub passed-end : to.at ≤ 0 → Passed listed p marks₁ kept₁ from marks₂ kept₂ (passed to.count)
-    passed-end z =
-        let none : to.at ≡ 0 = omega arith in
-        subst (λ (n : ℕ). Passed listed p marks₁ kept₁ from marks₂ kept₂ (record { at = n; count = to.count })) none x
 
     -- one that is, and is stored if blocks are listed
     pub passed-marked : {part marks' kept' : List ℕ} {i end r : ℕ} → 1 ≤ to.at → i ≡ to.at → part ≡ block_at p.image.now i → end ≡ capacity p.log.m.size

@@ -19,8 +19,8 @@ filled {part} {at} image size next v l h e p =
     rw (Post-is at (length image) image (omega arith), drop-length image, append-nil, q, e, l)
 
 -- a block written where it stands
-pub block-itself : (image : List ℕ) (k : ℕ) → with_block image k (block_at image k) ≡ image
+pub block_itself : (image : List ℕ) (k : ℕ) → with_block image k (block_at image k) ≡ image
 unfolding with_block block_at
-block-itself image k =
+block_itself image k =
     append_assoc (take (k * 64) image) (take 64 (drop (k * 64) image)) (drop (k * 64 + 64) image)
     ∙ rw (← drop-drop 64 (k * 64) image, take-append-drop 64 (drop (k * 64) image), take-append-drop (k * 64) image)

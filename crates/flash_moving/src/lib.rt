@@ -13,6 +13,7 @@ use flash_bitmap::clear_bits;
 use flash_measures::{BLOCK_BYTES, Measures};
 
 // Block `from` copied over block `to`, which is not above it. Where no lower block was dropped it stands there already.
+#[tactic(auto, using(crate::proofs::MoveLaws::block_itself), unfolding(flash_model::specs::Partition::block_at, flash_model::specs::Update::with_block))]
 fn move_block(image: &mut [u8], from: usize, to: usize)
     requires { (to ≤ from) × (from * 64 + 64 ≤ length image.old) }
     ensures { image.new ≡ model.with_block image.old to (block_at image.old from) }

@@ -3,12 +3,9 @@ use mathlib.Core.Bool.{true≢false}
 use borrow.Author.Tests.{ne_eqb}
 use Rattle.flash_partition.proofs.UsableLaws.{usable-measured, count_most}
 use Rattle.flash_listing.proofs.MarkLaws.{new-below}
-use Rattle.flash_listing.proofs.ListedLaws.{known-next, passed-start, passed-known, passed-end, passed-marked}
+use Rattle.flash_listing.proofs.ListedLaws.{known-next, passed-known, passed-marked}
 use Rattle.flash_listing.proofs.mark_run.Goals as goal
 use Rattle.flash_listing.proofs.mark_run.Goals.{then-this-ne0, else-this-ne0}
-
-pub loop-at-init : goal.loop-at-init
-loop-at-init g c = passed-start c.args.marks.now c.args.kept.now c.args.reached c.requires.pass_at.1
 
 pub returns-then-not-is_new-clause-passed : goal.returns-then-not-is_new-clause-passed
 returns-then-not-is_new-clause-passed g c =
@@ -32,17 +29,9 @@ overflow_sub-kept-then-this-ne0 g c =
     let v = c.loop-at.invariant in
     omega (arith, v.room, v.same_length, c.requires.bound, c.requires.room (rw (ne_eqb _ _ c.if-this-ne0.true)), count_most c.args.p.usable)
 
-pub overflow_add-count : goal.overflow_add-count
-overflow_add-count g c =
-    let u = c.args.p.usable in
-    omega (arith, c.loop-at.invariant.room, c.requires.bound, count_most u, (usable-measured u).two_bytes, c.mark_number-marked.ensures.value.1)
-
 pub loop-at-preserved : goal.loop-at-preserved
 loop-at-preserved g c =
     passed-marked c.loop-at.invariant (omega arith) (omega arith) c.block-part.ensures c.capacity-end.ensures (sym c.is_new.ensures ∙ c.if-not-is_new.false)
     c.mark_number-marked.ensures.value c.mark_number-marked.ensures.marks_after (omega (arith, c.requires.bound, count_most c.args.p.usable)) c.requires.room
     (elim c.if-this-ne0.branch [ then-this-ne0 w ↦ λ l. w.kept-is | else-this-ne0 w ↦ λ l. absurd (true≢false (sym l ∙ rw w.if-this-ne0.false)) ])
     c.if-this-ne0.auto.kept
-
-pub returns-clause-passed : goal.returns-clause-passed
-returns-clause-passed g c = passed-end c.loop-at.invariant (omega arith)

@@ -1,6 +1,6 @@
 use Rattle.flash_listing.specs.Passing.{whole}
 use Rattle.flash_listing.proofs.MarkLaws.{pass-first}
-use Rattle.flash_listing.proofs.ListedLaws.{passed-start, passed-then, passed-known, passed-end}
+use Rattle.flash_listing.proofs.ListedLaws.{passed-start, passed-then, passed-known}
 use Rattle.flash_listing.proofs.pass.Goals as goal
 
 pub loop-reached-init : goal.loop-reached-init
@@ -8,6 +8,3 @@ loop-reached-init g c = passed-start c.args.marks.now c.args.kept.now (whole c.a
 
 pub loop-reached-preserved : goal.loop-reached-preserved
 loop-reached-preserved g c = passed-known (passed-then c.loop-reached.invariant c.mark_run-reached.ensures.passed) c.pass_known.ensures
-
-pub returns : goal.returns
-returns g c = passed-end c.loop-reached.invariant c.loop-reached-test.false
