@@ -6,7 +6,8 @@ use mathlib.Core.List.{List, [], ◌∷◌, ◌++◌, append_assoc, append-nil}
 use native.Mathlib.Omega.{arith}
 use native.Mathlib.Nat.{sub-zero}
 use lib.ListN.{length, set, drop, replicate, length-set, length-append, length-replicate}
-use lib.Seq.{get_or-set_same, drop-cons, drop-length, drop-set-lt}
+use lib.Seq.{drop-length, drop-set-lt}
+use Rattle.std.proofs.lemmas.List.{drop-set}
 use Rattle.words.specs.Lists.{keep, numbers_from}
 use Rattle.flash_model.specs.Measures.{capacity}
 use Rattle.flash_model.specs.UserBlock.{number}
@@ -74,10 +75,6 @@ module _ {marks : List ℕ} {p : Partition} {k : ℕ} (low : 1 ≤ k) (f : PassA
 
 -- ---- the count and the list
 
-drop-stored : (l : List ℕ) (i v : ℕ) → i < length l → drop i (set l i v) ≡ v ∷ drop (suc i) l
-drop-stored l i v h =
-    drop-cons (set l i v) i 0 (omega (arith, length-set l i v)) ∙ rw (get_or-set_same l i v 0 h, drop-set-lt (suc i) l i v (omega arith))
-
 module _ (marks marks' image : List ℕ) (k count r : ℕ) (split : kept_blocks marks image k ≡ kept_blocks marks' image (k - 1) ++ replicate r k) where
   pub marked-counted : count + r + length (kept_blocks marks' image (k - 1)) ≡ count + length (kept_blocks marks image k)
   marked-counted = omega (arith, ap length split, length-append (kept_blocks marks' image (k - 1)) (replicate r k), length-replicate r k)
@@ -95,8 +92,8 @@ module _ (marks marks' image : List ℕ) (k count r : ℕ) (split : kept_blocks 
           rw a (drop-set-lt (length kept - count) kept (length kept - count - 1) k (omega arith))
       go (suc zero) h =
           let a : length kept - (count + 1) ≡ length kept - count - 1 = omega arith in
-          let c : suc (length kept - count - 1) ≡ length kept - count = omega arith in
-          rw a (drop-stored kept (length kept - count - 1) k (omega arith) ∙ rw c)
+          let c : length kept - count - 1 + 1 ≡ length kept - count = omega arith in
+          rw a (drop-set kept (length kept - count - 1) k (omega arith) ∙ rw c)
       go (suc (suc r)) h = absurd (omega arith)
 
 pub none_left : (marks image : List ℕ) → length (kept_blocks marks image 0) ≡ 0
