@@ -8,7 +8,6 @@ use Rattle.std.specs.Array.{IsWholeChunk}
 use native.Mathlib.Omega.{arith}
 use lib.ListN.{length, take, drop}
 use borrow.Author.Tests.{eq-eqb}
-use Rattle.flash_model.specs.Measures.{legal_number}
 use Rattle.flash_model.specs.Partition.{refusal, contents}
 use Rattle.flash_model.specs.Slots.{slot_size, slot_partition, slot_number, right_header, product_of, product_slot, free_slot, claimed_slot, written_slot, page_bytes}
 use Rattle.flash_model.specs.Calls.{claim_rows, code_of, after_page, calls_made}
@@ -20,7 +19,6 @@ use Rattle.slots.specs.Headers.{if_right}
 use Rattle.slots.specs.SlotUsable.{SlotUsable}
 use Rattle.slots.specs.SlotAnswers.{searched_of, claimed_image}
 use Rattle.slots.specs.declared.searches.Searched.TheVariants.{Free}
-use Rattle.slots.proofs.HeaderLaws.{slot_legal}
 
 -- a header that is there is right
 right_pages : {pages header : List ℕ} → Some header ≡ if_right (Some pages) → (right_header pages ≡ true) × (header ≡ pages)
@@ -66,10 +64,6 @@ module _ {image one other : List ℕ} {slot : ℕ} (c : Claims image one other s
   pub slot_99 : slot ≤ 99
   slot_99 = free-most image slot c.is_free
 
-  pub legal : {n : ℕ} → n ≤ 423 → legal_number (length image) n ≡ true
-  unfolding slot_size
-  legal {n} h = slot_legal (length image) n c.size_is h
-
   accepted : code_of image (on_pages (claim 3 one other)) ≡ 0
   unfolding code_of claim_rows claimed_slot product_of slot_partition
   accepted =
@@ -87,8 +81,9 @@ module _ {image one other : List ℕ} {slot : ℕ} (c : Claims image one other s
     pub opens_again : refusal between 3 ≡ 0
     opens_again = ap (λ (i : List ℕ). refusal i 3) first_is ∙ first-left.unrefused_then
 
-    pub legal_again : {m : ℕ} → m ≤ 423 → legal_number (length between) m ≡ true
-    legal_again {m} h = ap (λ (i : List ℕ). legal_number (length i) m) first_is ∙ ap (λ (l : ℕ). legal_number l m) first-left.same_length ∙ legal h
+    pub same_size : length between ≡ 32768
+    unfolding slot_size
+    same_size = ap length first_is ∙ first-left.same_length ∙ c.size_is
 
     pub both_saved : {m : ℕ} {image' : List ℕ} → m ≡ slot_number slot 1 → image' ≡ after_page between (save 3 m (page_bytes (contents between m)) other)
         → image' ≡ claimed_image image one other

@@ -1,7 +1,6 @@
 // A claim, on a partition that refusals 1 to 5 don't apply to.
-ghost use Rattle.std.specs.Prelude.{◌≡◌, true, ◌++◌, length, IfOk, Some};
+ghost use Rattle.std.specs.Prelude.{◌≡◌, ◌++◌, ◌≤◌, length, IfOk, Some};
 ghost use Rattle.flash_model.specs.Errors.{result_code};
-ghost use Rattle.flash_model.specs.Measures.{legal_number};
 ghost use Rattle.flash_model.specs.Partition.{refusal, contents};
 ghost use Rattle.flash_model.specs.Slots.{claimed_slot, page_bytes};
 ghost use Rattle.flash_model.specs.Calls.{claim_rows, after_page, PageCall.save};
@@ -19,10 +18,11 @@ use flash_partition::partition::{OpenedLog, Partition};
 
 // Saves a page as the contents of a number, with what stands there as expected. The image is opened anew, since the save before
 // may have changed which blocks are used.
-#[tactic(auto, unfolding(flash_model::specs::Calls::after_page))]
+#[tactic(auto, using(crate::proofs::HeaderLaws::slot_legal), unfolding(flash_model::specs::Calls::after_page))]
 fn save_over(image: &mut [u8], number: usize, page: &[u8; 60])
     requires image_value { refusal image.old 3 ≡ 0 }
-    requires number_value { legal_number (length image.old) number ≡ true }
+    requires size_value { length image.old ≡ 32768 }
+    requires number_bound { number ≤ 423 }
     ensures { image.new ≡ after_page image.old (save 3 number (page_bytes (contents image.old number)) page.now) }
 {
     let Ok(p) = open(image, SLOT_PARTITION) else {
