@@ -1,12 +1,12 @@
 -- A claim that finds no slot with its product number: its two saves. Assumes nothing.
 use Prim.Native.Nat.{ℕ, ◌≤◌}
 use mathlib.Core.Path.{◌≡◌, refl, sym, ap, ◌∙◌}
-use mathlib.Core.Bool.{Bool, true, false, cond}
+use mathlib.Core.Bool.{Bool, true}
 use mathlib.Core.List.{List, ◌++◌}
 use Rattle.std.specs.Prelude.{Option, None, Some}
 use Rattle.std.specs.Array.{IsWholeChunk}
 use native.Mathlib.Omega.{arith}
-use lib.ListN.{length, take, drop}
+use lib.ListN.{length}
 use borrow.Author.Tests.{eq-eqb}
 use Rattle.flash_model.specs.Partition.{refusal, contents}
 use Rattle.flash_model.specs.Slots.{slot_size, slot_partition, slot_number, right_header, product_of, product_slot, free_slot, claimed_slot, written_slot, page_bytes}
@@ -15,18 +15,9 @@ use Rattle.flash_model.specs.Calls.{PageCall.save, CompoundCall.claim, Call.on_p
 use Rattle.flash_model.proofs.SlotLaws.{open-slot}
 use Rattle.flash_model.proofs.ClaimLaws.{free-most, claim-rows, first_save, second_save, FirstDone, first-saved}
 use Rattle.flash_partition.specs.declared.partition.OpenedLog.{OpenedLog}
-use Rattle.slots.specs.Headers.{if_right}
 use Rattle.slots.specs.SlotUsable.{SlotUsable}
 use Rattle.slots.specs.SlotAnswers.{searched_of, claimed_image}
 use Rattle.slots.specs.declared.searches.Searched.TheVariants.{Free}
-
--- a header that is there is right
-right_pages : {pages header : List ℕ} → Some header ≡ if_right (Some pages) → (right_header pages ≡ true) × (header ≡ pages)
-right_pages {pages} {header} e = go (right_header pages) refl e
-  where
-    go : (t : Bool) → right_header pages ≡ t → Some header ≡ cond t (Some pages) None → (right_header pages ≡ true) × (header ≡ pages)
-    go true r q = (r, cc)
-    go false r q = let z : ◌≡◌ {A = ℕ} 0 1 = cc in absurd (omega arith)
 
 -- a search that tells a free slot found none with the product number
 told_free : (has free : Option ℕ) {slot : ℕ} → Free slot ≡ searched_of has free → (has ≡ None) × (free ≡ Some slot)
@@ -39,22 +30,22 @@ pub record Claims (image one other : List ℕ) (slot : ℕ) : Type 0 where
   one_60 : length one ≡ 60
   other_60 : length other ≡ 60
   right : right_header (one ++ other) ≡ true
-  none_has : product_slot image (take 10 (drop 2 (one ++ other))) ≡ None
+  none_has : product_slot image (product_of (one ++ other)) ≡ None
   is_free : free_slot image ≡ Some slot
   size_is : length image ≡ slot_size
   unrefused : refusal image 3 ≡ 0
 
-pub claims : {image first second one other header : List ℕ} {log : OpenedLog} {slot : ℕ} → SlotUsable image log → IsWholeChunk first one 60 → IsWholeChunk second other 60
-    → Some header ≡ if_right (Some (one ++ other)) → Free slot ≡ searched_of (product_slot image (take 10 (drop 2 header))) (free_slot image) → Claims image one other slot
+pub claims : {image first second one other number : List ℕ} {log : OpenedLog} {slot : ℕ} {right : Bool} → SlotUsable image log → IsWholeChunk first one 60 → IsWholeChunk second other 60
+    → right ≡ right_header (one ++ other) → right ≡ true → ((second : List ℕ) → number ≡ product_of (one ++ second)) → Free slot ≡ searched_of (product_slot image number) (free_slot image)
+    → Claims image one other slot
 unfolding slot_size
-claims {image} u l m e f =
-    let h = right_pages e in
+claims {image} {one} {other} u l m r t n f =
     let told = told_free _ _ f in
     record {
       one_60 = ap length l.same ∙ l.long;
       other_60 = ap length m.same ∙ m.long;
-      right = h.0;
-      none_has = ap (λ (x : List ℕ). product_slot image (take 10 (drop 2 x))) (sym h.1) ∙ told.0;
+      right = sym r ∙ t;
+      none_has = ap (product_slot image) (sym (n other)) ∙ told.0;
       is_free = told.1;
       size_is = u.is_usable.has_size ∙ u.has_size;
       unrefused = u.unrefused;
@@ -65,7 +56,7 @@ module _ {image one other : List ℕ} {slot : ℕ} (c : Claims image one other s
   slot_99 = free-most image slot c.is_free
 
   accepted : code_of image (on_pages (claim 3 one other)) ≡ 0
-  unfolding code_of claim_rows claimed_slot product_of slot_partition
+  unfolding code_of claim_rows claimed_slot slot_partition
   accepted =
       let open-3 = open-slot image 3 (record { size_is = c.size_is; unrefused_1_5 = c.unrefused; named = refl }) in
       rw (open-3, eq-eqb (length one) 60 c.one_60, eq-eqb (length other) 60 c.other_60, c.right, c.none_has, c.is_free)
@@ -87,7 +78,7 @@ module _ {image one other : List ℕ} {slot : ℕ} (c : Claims image one other s
 
     pub both_saved : {m : ℕ} {image' : List ℕ} → m ≡ slot_number slot 1 → image' ≡ after_page between (save 3 m (page_bytes (contents between m)) other)
         → image' ≡ claimed_image image one other
-    unfolding claimed_image claim_rows claimed_slot calls_made written_slot product_of
+    unfolding claimed_image claim_rows claimed_slot calls_made written_slot
     both_saved {m} {image'} r f =
         let stands-then : contents between (slot_number slot 1) ≡ contents image (slot_number slot 1) = ap (λ (i : List ℕ). contents i (slot_number slot 1)) first_is ∙ first-left.second_stands in
         let last : image' ≡ after_page (after_page image (first_save image 3 one other slot)) (second_save image 3 one other slot) = f ∙ rw (r, stands-then, first_is) in

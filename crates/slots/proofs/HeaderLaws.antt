@@ -1,18 +1,19 @@
 -- A slot's header, as the code makes it, and the places that its pages stand in. Assumes nothing.
 use Prim.Native.Nat.{ℕ, ◌≤◌, ◌<◌}
-use mathlib.Core.Path.{◌≡◌, refl, ap, ◌∙◌}
+use mathlib.Core.Path.{◌≡◌, refl, sym, ap, ◌∙◌}
 use mathlib.Core.Bool.{true}
 use mathlib.Core.List.{List, ◌++◌}
 use Rattle.std.specs.Prelude.{Option, None, Some, option_map}
 use mathlib.Core.Logic.{◌≢◌}
 use native.Mathlib.Omega.{arith}
-use lib.ListN.{length, get_or}
+use lib.ListN.{length, get_or, take, drop, length-drop}
+use Rattle.std.proofs.lemmas.List.{take-append-le, drop-append-le}
 use borrow.Rule.Slice.PartMut.{put_mid}
 use Rattle.words.proofs.PartsLaws.{laid-last}
 use Rattle.flash_model.specs.Measures.{blocks, bitmap_blocks, first_bitmap, capacity, legal_number}
 use Rattle.flash_model.specs.UserBlock.{payload}
 use Rattle.flash_model.specs.Partition.{block_at, holder, contents}
-use Rattle.flash_model.specs.Slots.{slot_number, slot_size}
+use Rattle.flash_model.specs.Slots.{slot_number, slot_size, product_of}
 use Rattle.flash_model.proofs.MeasureLaws.{le-legal}
 use Rattle.flash_model.proofs.HolderLaws.{holder-held}
 use Rattle.flash_model.proofs.SlotLaws.{slot-legal}
@@ -21,6 +22,12 @@ use Rattle.slots.specs.SlotUsable.{SlotPlaces}
 pub joined_pages : {front back one other : List ℕ} (rest : List ℕ) → length rest ≡ 60 → length one ≡ 60 → front ≡ one → back ≡ other
     → put_mid 60 60 (front ++ rest) back ≡ one ++ other
 joined_pages {front} {back} rest lr lo e f = laid-last front back rest 60 60 (ap length e ∙ lo) (omega (arith, lr)) ∙ rw (e, f)
+
+-- the product number stands in the first page
+pub product_in_first : (first second : List ℕ) → length first ≡ 60 → take 10 (drop 2 first) ≡ product_of (first ++ second)
+unfolding product_of
+product_in_first first second e =
+    sym (ap (take 10) (drop-append-le 2 first second (omega (arith, e))) ∙ take-append-le 10 (drop 2 first) second (omega (arith, length-drop 2 first, e)))
 
 -- ---- numbers
 

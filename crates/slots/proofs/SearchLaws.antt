@@ -7,7 +7,6 @@ use Rattle.std.specs.Prelude.{Option, None, Some, MatchOption}
 use native.Mathlib.Omega.{arith}
 use native.Mathlib.Decide.{dec_le}
 use lib.Dec.{leb}
-use lib.ListN.{take, drop}
 use borrow.Author.Tests.{le-leb, lt-leb}
 use Rattle.words.specs.Lists.{is_some}
 use Rattle.words.specs.Search.{lowest}
@@ -16,37 +15,37 @@ use Rattle.words.proofs.SearchLaws.{lowest-is, lowest-nothing}
 use Rattle.words.proofs.LoopLaws.{lowest-here, lowest-next, lowest-end}
 use Rattle.flash_model.specs.Slots.{slot_count, slot_header, right_header, product_of, is_right, valid_slot, has_product, product_slot, free_slot, lowest_valid, or_else}
 use Rattle.flash_model.proofs.ClaimLaws.{slot-count}
-use Rattle.slots.specs.Headers.{if_right}
+use Rattle.slots.specs.Headers.{product_in, slot_product}
 use Rattle.slots.specs.SlotAnswers.{searched_of}
 use Rattle.slots.specs.declared.searches.Searched.TheVariants.{Has}
 
 -- ---- one slot
 
 module _ (image product : List ℕ) (slot : ℕ) where
-  -- a slot with a right header is valid, and its product number decides
-  pub right_there : (header : List ℕ) → Some header ≡ if_right (slot_header image slot)
-      → (valid_slot image slot ≡ true) × (has_product product (slot_header image slot) ≡ same_bytes (take 10 (drop 2 header)) product)
-  unfolding valid_slot product_of
-  right_there header e = go (slot_header image slot) e
+  -- a valid slot's product number decides whether it is the one
+  pub number_there : (number : List ℕ) → Some number ≡ slot_product image slot
+      → (valid_slot image slot ≡ true) × (has_product product (slot_header image slot) ≡ same_bytes number product)
+  unfolding valid_slot
+  number_there number e = go (slot_header image slot) e
     where
-      by : (h : List ℕ) (t : Bool) → right_header h ≡ t → Some header ≡ cond t (Some h) None
-          → (right_header h ≡ true) × ((right_header h && same_bytes (take 10 (drop 2 h)) product) ≡ same_bytes (take 10 (drop 2 header)) product)
-      by h true r q = let s : header ≡ h = cc in (r, rw (r, s))
+      by : (h : List ℕ) (t : Bool) → right_header h ≡ t → Some number ≡ cond t (Some (product_of h)) None
+          → (right_header h ≡ true) × ((right_header h && same_bytes (product_of h) product) ≡ same_bytes number product)
+      by h true r q = let s : number ≡ product_of h = cc in (r, rw (r, s))
       by h false r q = let z : ◌≡◌ {A = ℕ} 0 1 = cc in absurd (omega arith)
 
-      go : (o : Option (List ℕ)) → Some header ≡ if_right o → (is_right o ≡ true) × (has_product product o ≡ same_bytes (take 10 (drop 2 header)) product)
+      go : (o : Option (List ℕ)) → Some number ≡ product_in o → (is_right o ≡ true) × (has_product product o ≡ same_bytes number product)
       go None q = let z : ◌≡◌ {A = ℕ} 0 1 = cc in absurd (omega arith)
       go (Some h) q = by h (right_header h) refl q
 
-  pub none_there : None ≡ if_right (slot_header image slot) → (valid_slot image slot ≡ false) × (has_product product (slot_header image slot) ≡ false)
+  pub none_there : None ≡ slot_product image slot → (valid_slot image slot ≡ false) × (has_product product (slot_header image slot) ≡ false)
   unfolding valid_slot
   none_there e = go (slot_header image slot) e
     where
-      by : (h : List ℕ) (t : Bool) → right_header h ≡ t → None ≡ cond t (Some h) None → (right_header h ≡ false) × (has_product product (Some h) ≡ false)
+      by : (h : List ℕ) (t : Bool) → right_header h ≡ t → None ≡ cond t (Some (product_of h)) None → (right_header h ≡ false) × (has_product product (Some h) ≡ false)
       by h true r q = let z : ◌≡◌ {A = ℕ} 0 1 = cc in absurd (omega arith)
       by h false r q = (r, rw r)
 
-      go : (o : Option (List ℕ)) → None ≡ if_right o → (is_right o ≡ false) × (has_product product o ≡ false)
+      go : (o : Option (List ℕ)) → None ≡ product_in o → (is_right o ≡ false) × (has_product product o ≡ false)
       go None q = (refl, refl)
       go (Some h) q = by h (right_header h) refl q
 
@@ -114,31 +113,31 @@ apart {start} k f (yes h) = rw (le-leb start k h) (f h)
 apart {start} k f (no h) = rw (lt-leb start k (omega (arith, h)))
 
 module _ (image : List ℕ) where
-  -- the header of a slot is right
-  abbrev pub has_right : ℕ → Bool
-  has_right k = is_some (if_right (slot_header image k))
+  -- the slot has a product number that counts
+  abbrev pub has_number : ℕ → Bool
+  has_number k = is_some (slot_product image k)
 
-  right_valid : (k : ℕ) → has_right k ≡ valid_slot image k
+  number_valid : (k : ℕ) → has_number k ≡ valid_slot image k
   unfolding valid_slot
-  right_valid k = go (slot_header image k)
+  number_valid k = go (slot_header image k)
     where
-      by : (t : Bool) (h : List ℕ) → is_some (cond t (Some h) None) ≡ t
-      by true h = refl
-      by false h = refl
+      by : (t : Bool) (number : List ℕ) → is_some (cond t (Some number) None) ≡ t
+      by true number = refl
+      by false number = refl
 
-      go : (o : Option (List ℕ)) → is_some (if_right o) ≡ is_right o
+      go : (o : Option (List ℕ)) → is_some (product_in o) ≡ is_right o
       go None = refl
-      go (Some h) = by (right_header h) h
+      go (Some h) = by (right_header h) (product_of h)
 
-  pub lowest_found : (start : ℕ) (r : Option ℕ) → MatchOption r ((k : ℕ) → start ≤ k → k < 100 → has_right k ≡ false)
-      (λ i. (start ≤ i) × (i < 100) × (has_right i ≡ true) × ((k : ℕ) → start ≤ k → k < i → has_right k ≡ false)) → lowest_valid image start ≡ r
+  pub lowest_found : (start : ℕ) (r : Option ℕ) → MatchOption r ((k : ℕ) → start ≤ k → k < 100 → has_number k ≡ false)
+      (λ i. (start ≤ i) × (i < 100) × (has_number i ≡ true) × ((k : ℕ) → start ≤ k → k < i → has_number k ≡ false)) → lowest_valid image start ≡ r
   unfolding lowest_valid
   lowest_found start None none =
-      lowest-nothing (λ k. leb start k && valid_slot image k) 0 slot_count (λ k a b. apart k (λ h. sym (right_valid k) ∙ none k h (omega (arith, b, slot-count))) (dec_le start k))
+      lowest-nothing (λ k. leb start k && valid_slot image k) 0 slot_count (λ k a b. apart k (λ h. sym (number_valid k) ∙ none k h (omega (arith, b, slot-count))) (dec_le start k))
   lowest_found start (Some i) w =
       lowest-is (λ k. leb start k && valid_slot image k) 0 slot_count i (record {
         low = omega arith;
         high = omega (arith, w.1, slot-count);
-        passes = rw (le-leb start i w.0) (sym (right_valid i) ∙ w.2);
-        none_below = λ k a b. apart k (λ h. sym (right_valid k) ∙ w.3 k h b) (dec_le start k);
+        passes = rw (le-leb start i w.0) (sym (number_valid i) ∙ w.2);
+        none_below = λ k a b. apart k (λ h. sym (number_valid k) ∙ w.3 k h b) (dec_le start k);
       })

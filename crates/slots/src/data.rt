@@ -2,39 +2,42 @@
 ghost use Rattle.std.specs.Prelude.{◌≡◌, true, cond, ◌≤◌, eqb, IfOk};
 ghost use Rattle.flash_model.specs.Errors.{result_code};
 ghost use Rattle.flash_model.specs.Measures.{legal_number};
-ghost use Rattle.flash_model.specs.Slots.{data_number, slot_header};
+ghost use Rattle.flash_model.specs.Slots.{data_number, valid_slot};
 ghost use Rattle.flash_model.specs.Calls.{slot_rows, slot_read_rows, slot_save_rows};
 ghost use Rattle.flash_model.specs.Update.{saved};
 ghost use Rattle.slots.specs.SlotUsable.{SlotUsable};
 ghost use Rattle.slots.specs.SlotAnswers.{data_buffer};
-ghost use Rattle.slots.specs.Headers.{if_right};
 
 use crate::DataBlock;
-use crate::headers::valid_header;
+use crate::headers::right_header;
 use crate::numbers::{SLOTS, slot_number};
 use crate::opening::SlotPartition;
 use flash_model::FlashError;
 use flash_pages::{contents, read_page, save_page, whole_page};
 use flash_partition::partition::{OpenedLog, Partition};
 
-// The header of a slot, where it makes the slot valid.
-#[tactic(auto, using(crate::proofs::HeaderLaws::slot_legal), unfolding(flash_model::specs::Slots::slot_header))]
-fn header(slots: SlotPartition<'_>, slot: usize) -> Option<[u8; 120]>
+// Whether the slot is valid.
+#[tactic(auto, using(crate::proofs::HeaderLaws::slot_legal), unfolding(flash_model::specs::Slots::valid_slot, flash_model::specs::Slots::slot_header))]
+fn valid_slot(slots: SlotPartition<'_>, slot: usize) -> bool
     requires { slot ≤ 99 }
-    ensures { result ≡ if_right (slot_header slots.entry.partition.image.now slot) }
+    ensures { result ≡ valid_slot slots.entry.partition.image.now slot }
 {
-    let first = contents(slots.partition, slot_number(slot, 0))?;
-    let second = contents(slots.partition, slot_number(slot, 1))?;
-    valid_header(first, second)
+    let Some(first) = contents(slots.partition, slot_number(slot, 0)) else {
+        return false;
+    };
+    let Some(second) = contents(slots.partition, slot_number(slot, 1)) else {
+        return false;
+    };
+    right_header(first, second)
 }
 
 // The logical number of a data block: refusals 42 where the slot is above 99 or not valid, and 43 where the block is neither 0 nor 1.
-#[tactic(auto, using(crate::proofs::HeaderLaws::slot_legal), unfolding(flash_model::specs::Slots::no_slot, flash_model::specs::Slots::no_block, flash_model::specs::Slots::valid_slot, flash_model::specs::Slots::data_number))]
+#[tactic(auto, using(crate::proofs::HeaderLaws::slot_legal), unfolding(flash_model::specs::Slots::no_slot, flash_model::specs::Slots::no_block, flash_model::specs::Slots::data_number))]
 fn data_number(slots: SlotPartition<'_>, at: DataBlock) -> Result<usize, FlashError>
     ensures code { result_code result ≡ slot_rows slots.entry.partition.image.now at.slot at.block 0 }
     ensures number { IfOk result (λ n. (n ≡ data_number at.slot at.block) × (legal_number slots.entry.partition.log.m.size n ≡ true)) }
 {
-    if SLOTS <= at.slot || header(slots, at.slot).is_none() {
+    if SLOTS <= at.slot || !valid_slot(slots, at.slot) {
         return Err(FlashError::NoSlot);
     }
     if 1 < at.block {

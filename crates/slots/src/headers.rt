@@ -1,7 +1,6 @@
-// A slot's header: the two pages of 60 bytes, one behind the other.
-ghost use Rattle.std.specs.Prelude.{◌≡◌, ◌++◌, Some};
-ghost use Rattle.flash_model.specs.Slots.{right_header};
-ghost use Rattle.slots.specs.Headers.{if_right};
+// A slot's header: two pages of 60 bytes, one behind the other.
+ghost use Rattle.std.specs.Prelude.{◌≡◌, ◌++◌};
+ghost use Rattle.flash_model.specs.Slots.{right_header, product_of};
 
 use words::word;
 
@@ -17,20 +16,20 @@ fn join_pages(first: &[u8; 60], second: &[u8; 60]) -> [u8; HEADER_BYTES]
     header
 }
 
-// Whether the header makes a slot valid.
+// Whether the two pages are a header that makes a slot valid.
 #[tactic(auto, unfolding(flash_model::specs::Slots::right_header))]
-fn right_header(header: &[u8; HEADER_BYTES]) -> bool
-    ensures { result ≡ right_header header.now }
-{
-    header[0] == 1
-        && header[1] == 255
-        && word(header, 112) == usize::from(checksum::checksum(&header[2..112]))
-}
-
-// The header in two pages, where it makes a slot valid.
-pub(crate) fn valid_header(first: &[u8; 60], second: &[u8; 60]) -> Option<[u8; HEADER_BYTES]>
-    ensures { result ≡ if_right (Some (first.now ++ second.now)) }
+pub(crate) fn right_header(first: &[u8; 60], second: &[u8; 60]) -> bool
+    ensures { result ≡ right_header (first.now ++ second.now) }
 {
     let header = join_pages(first, second);
-    right_header(&header).then_some(header)
+    header[0] == 1
+        && header[1] == 255
+        && word(&header, 112) == usize::from(checksum::checksum(&header[2..112]))
+}
+
+// The product number, which stands in the first page, whatever the second is.
+pub(crate) fn product_of(first: &[u8; 60]) -> &[u8; 10]
+    ensures { (second : _) → result.now ≡ product_of (first.now ++ second) }
+{
+    first[2..12].as_array().unwrap()
 }

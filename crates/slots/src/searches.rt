@@ -3,12 +3,12 @@ ghost use Rattle.std.specs.Prelude.{◌≡◌, ◌<◌, IfOk, Some, option_copie
 ghost use Rattle.flash_model.specs.Errors.{result_code};
 ghost use Rattle.flash_model.specs.Partition.{contents};
 ghost use Rattle.flash_model.specs.Calls.{find_rows};
-ghost use Rattle.flash_model.specs.Slots.{slot_header, product_slot, free_slot, lowest_valid};
+ghost use Rattle.flash_model.specs.Slots.{product_slot, free_slot, lowest_valid};
 ghost use Rattle.slots.specs.SlotUsable.{SlotPlaces};
 ghost use Rattle.slots.specs.SlotAnswers.{searched_of};
-ghost use Rattle.slots.specs.Headers.{if_right};
+ghost use Rattle.slots.specs.Headers.{slot_product};
 
-use crate::headers::valid_header;
+use crate::headers::{product_of, right_header};
 use crate::numbers::{SLOTS, slot_number};
 use crate::opening::SlotPartition;
 use flash_listing::places::find_places;
@@ -60,27 +60,27 @@ impl<'a> Places<'a> {
         }
     }
 
-    // The header of a slot, where it makes the slot valid.
+    // The product number of a slot, where it is valid.
     #[tactic(auto, unfolding(flash_model::specs::Slots::slot_header))]
-    fn header(&self, slot: usize) -> Option<[u8; 120]>
+    fn product(&self, slot: usize) -> Option<&'a [u8; 10]>
         requires { slot < 100 }
-        ensures { result ≡ if_right (slot_header self.entry.now.partition.image.now slot) }
+        ensures { option_copied result ≡ slot_product self.entry.now.partition.image.now slot }
     {
         let first = self.contents(slot_number(slot, 0))?;
         let second = self.contents(slot_number(slot, 1))?;
-        valid_header(first, second)
+        right_header(first, second).then_some(product_of(first))
     }
 }
 
 // The lowest slot with the product number, and the lowest that is not valid where no slot has it.
-pub(crate) fn search(slots: SlotPartition<'_>, product: &[u8]) -> Searched
+pub(crate) fn search(slots: SlotPartition<'_>, product: &[u8; 10]) -> Searched
     ensures { result ≡ searched_of (product_slot slots.entry.partition.image.now product.now) (free_slot slots.entry.partition.image.now) }
 {
     let places = Places::of(slots);
     let mut free = None;
     for slot in 0..SLOTS {
-        match places.header(slot) {
-            Some(header) if &header[2..12] == product => return Searched::Has(slot),
+        match places.product(slot) {
+            Some(found) if found == product => return Searched::Has(slot),
             Some(_) => {}
             None => free = free.or(Some(slot)),
         }
@@ -97,9 +97,9 @@ pub(crate) fn find_product(slots: SlotPartition<'_>, product: &[u8]) -> Result<u
     ensures code { result_code result ≡ find_rows slots.entry.partition.image.now product.now }
     ensures slot { IfOk result (λ slot. product_slot slots.entry.partition.image.now product.now ≡ Some slot) }
 {
-    if product.len() != 10 {
+    let Ok(product) = <&[u8; 10]>::try_from(product) else {
         return Err(FlashError::BufferLength);
-    }
+    };
     match search(slots, product) {
         Searched::Has(slot) => Ok(slot),
         _ => Err(FlashError::NothingThere),
@@ -111,5 +111,5 @@ pub(crate) fn next_valid(slots: SlotPartition<'_>, from: usize) -> Option<usize>
     ensures { result ≡ lowest_valid slots.entry.partition.image.now from }
 {
     let places = Places::of(slots);
-    (from..SLOTS).find(|slot| places.header(*slot).is_some())
+    (from..SLOTS).find(|slot| places.product(*slot).is_some())
 }

@@ -7,7 +7,7 @@ ghost use Rattle.flash_model.specs.Calls.{claim_rows, after_page, PageCall.save}
 ghost use Rattle.slots.specs.SlotUsable.{SlotUsable};
 ghost use Rattle.slots.specs.SlotAnswers.{claimed_image};
 
-use crate::headers::valid_header;
+use crate::headers::{product_of, right_header};
 use crate::numbers::slot_number;
 use crate::opening::{SLOT_PARTITION, SlotPartition};
 use crate::searches::{Searched, search};
@@ -39,7 +39,7 @@ fn save_over(image: &mut [u8], number: usize, page: &[u8; 60])
 
 // The slot with this header's product number, or else the lowest that is not valid, where the two blocks are saved in order: refusals
 // 8, 41 and 40 where there is none.
-#[tactic(auto, unfolding(flash_model::specs::Calls::claim_rows, flash_model::specs::Slots::claimed_slot, flash_model::specs::Slots::product_of, flash_model::specs::Calls::calls_made, flash_model::specs::Slots::written_slot, crate::specs::SlotAnswers::claimed_image))]
+#[tactic(auto, unfolding(flash_model::specs::Calls::claim_rows, flash_model::specs::Slots::claimed_slot, flash_model::specs::Calls::calls_made, flash_model::specs::Slots::written_slot, crate::specs::SlotAnswers::claimed_image))]
 pub(crate) fn claim_slot(
     image: &mut [u8],
     log: OpenedLog,
@@ -55,11 +55,11 @@ pub(crate) fn claim_slot(
     else {
         return Err(FlashError::BufferLength);
     };
-    let Some(header) = valid_header(first, second) else {
+    if !right_header(first, second) {
         return Err(FlashError::SlotHeader);
-    };
+    }
     let partition = Partition { image, log };
-    match search(SlotPartition { partition }, &header[2..12]) {
+    match search(SlotPartition { partition }, product_of(first)) {
         Searched::Has(slot) => Ok(slot),
         Searched::Full => Err(FlashError::NoFreeSlot),
         Searched::Free(slot) => {

@@ -1,5 +1,5 @@
 use mathlib.Core.Path.{sym, ◌∙◌}
-use Rattle.slots.proofs.SearchLaws.{right_there, none_there, search_first, found, next_valid, next_free, searched}
+use Rattle.slots.proofs.SearchLaws.{number_there, none_there, search_first, found, next_valid, next_free, searched}
 use Rattle.slots.proofs.searches.search.Goals as goal
 use Rattle.slots.proofs.searches.search.Goals.{in-Some+else-eq, in-None}
 
@@ -8,15 +8,15 @@ loop-slot-init c = search_first _ _
 
 pub returns-in-Some : goal.returns-in-Some
 returns-in-Some c =
-    let there = right_there _ c.args.product.now _ _ c.in-Some.ensures in
+    let there = number_there _ c.args.product.now _ _ c.in-Some.ensures in
     rw (sym c.of-places.ensures) (found _ _ c.loop-slot.invariant c.loop-slot-test.true (there.1 ∙ sym c.eq.ensures ∙ c.if-eq.true))
 
 pub loop-slot-preserved : goal.loop-slot-preserved
 loop-slot-preserved c =
     let at = c.loop-slot.invariant in
-    let low = c.loop-slot-test.true in elim c.match-header.branch [
+    let low = c.loop-slot-test.true in elim c.match-product.branch [
       | in-Some+else-eq w ↦
-          let there = right_there _ c.args.product.now _ _ w.in-Some.ensures in
+          let there = number_there _ c.args.product.now _ _ w.in-Some.ensures in
           rw w.free-is (next_valid _ _ at low there.0 (there.1 ∙ sym w.eq.ensures ∙ w.if-eq.false))
       | in-None w ↦
           let there = none_there _ c.args.product.now _ w.in-None.ensures in
