@@ -5,11 +5,11 @@ ghost use Rattle.card_model.specs.Layout.{directory_of};
 ghost use Rattle.card_model.specs.Calls.{first_used, entry_named};
 ghost use Rattle.card_directory.specs.Listed.{Listed, TestsListed};
 
+use crate::directory::Directory;
 use crate::entry::{entry_at, name_of};
-use card_model::LENGTH;
 
 // The first number of the list that passes a test.
-pub(crate) fn find_used<F: Fn(usize) -> bool>(used: &[u8], passes: F) -> Option<usize>
+pub fn find_used<F: Fn(usize) -> bool>(used: &[u8], passes: F) -> Option<usize>
     requires { (j : ℕ) → j < length used.now → F.pre passes (slice_index used.now j) }
     ensures { (p : ℕ → Bool) → TestsListed (F.post passes) p used.now → result ≡ find p used.now }
 {
@@ -30,12 +30,11 @@ pub fn first_used(used: &[u8], start: usize) -> Option<usize>
 }
 
 // The entry of this name. Arrays are compared, since a comparison of slices is a call for each entry.
-pub fn find_named(card: &[u8; LENGTH], used: &[u8], name: &[u8]) -> Option<usize>
-    requires { Listed (directory_of card.now) 208 used.now (length used.now) }
-    ensures { result ≡ entry_named (directory_of card.now) name.now }
+pub fn find_named(directory: Directory<'_>, name: &[u8]) -> Option<usize>
+    ensures { result ≡ entry_named (directory_of directory.entry.card.now) name.now }
 {
     let Ok(name) = <&[u8; 12]>::try_from(name) else {
         return None;
     };
-    find_used(used, |i| name_of(entry_at(card, i)) == name)
+    find_used(directory.used, |i| name_of(entry_at(directory.card, i)) == name)
 }

@@ -5,6 +5,7 @@ ghost use Rattle.card_model.specs.Layout.{directory_of};
 ghost use Rattle.card_model.specs.Entries.{entry_row};
 ghost use Rattle.card_directory.specs.Listed.{Listed};
 
+use crate::directory::Directory;
 use crate::entry::{entry_at, is_used, wrong_entry};
 use crate::search::find_used;
 use card_model::LENGTH;
@@ -29,11 +30,10 @@ pub fn list_used(card: &[u8; LENGTH]) -> UsedEntries
 }
 
 // Refusal 26, of the first wrong entry of the list.
-pub fn entry_row(card: &[u8; LENGTH], used: &[u8]) -> Result<(), CardError>
-    requires { Listed (directory_of card.now) 208 used.now (length used.now) }
-    ensures { result_verdict result ≡ entry_row (directory_of card.now) }
+pub fn entry_row(directory: Directory<'_>) -> Result<(), CardError>
+    ensures { result_verdict result ≡ entry_row (directory_of directory.entry.card.now) }
 {
-    match find_used(used, |i| wrong_entry(entry_at(card, i))) {
+    match find_used(directory.used, |i| wrong_entry(entry_at(directory.card, i))) {
         Some(i) => Err(Rule::DirectoryEntry.at(Place::Entry(i))),
         None => Ok(()),
     }

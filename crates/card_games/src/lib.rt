@@ -1,7 +1,7 @@
 #![tactic(auto)]
 
 // The game rule: refusal 30, over the list of the used entries.
-ghost use Rattle.std.specs.Prelude.{◌≡◌, true, ◌+◌, ◌≤◌, ◌<◌, length};
+ghost use Rattle.std.specs.Prelude.{◌≡◌, true, ◌+◌, ◌≤◌, ◌<◌};
 ghost use Rattle.words.specs.Lists.{any_of, is_some, numbers_from};
 ghost use Rattle.verdicts.specs.Rows.{result_verdict};
 ghost use Rattle.card_model.specs.Layout.{table_of, directory_of};
@@ -9,9 +9,10 @@ ghost use Rattle.card_model.specs.Table.{link_at};
 ghost use Rattle.card_model.specs.Entries as model;
 ghost use Rattle.card_model.specs.Files.{chain, or_empty, rising, breaks_game_rule, game_row};
 ghost use Rattle.card_games.specs.Rules.{GoodChains, leads_to};
-ghost use Rattle.card_directory.specs.Listed.{Listed};
 
+use card_directory::directory::Directory;
 use card_directory::entry::{entry_at, first_block, is_game, size};
+use card_directory::search::find_used;
 use card_model::{LENGTH, Link};
 use card_table::{classify, fat_entry};
 use verdicts::{CardError, Place, Rule};
@@ -62,16 +63,12 @@ fn breaks_game_rule(card: &[u8; LENGTH], i: usize) -> bool
 }
 
 // The refusal at the first listed entry that breaks the rule.
-pub fn game_row(card: &[u8; LENGTH], used: &[u8]) -> Result<(), CardError>
-    requires good_chains { GoodChains (table_of card.now) (directory_of card.now) }
-    requires listed { Listed (directory_of card.now) 208 used.now (length used.now) }
-    ensures { result_verdict result ≡ game_row (table_of card.now) (directory_of card.now) }
+pub fn game_row(directory: Directory<'_>) -> Result<(), CardError>
+    requires { GoodChains (table_of directory.card.now) (directory_of directory.card.now) }
+    ensures { result_verdict result ≡ game_row (table_of directory.entry.card.now) (directory_of directory.entry.card.now) }
 {
-    for &i in used {
-        let i = usize::from(i);
-        if breaks_game_rule(card, i) {
-            return Err(Rule::Game.at(Place::Entry(i)));
-        }
+    match find_used(directory.used, |i| breaks_game_rule(directory.card, i)) {
+        Some(i) => Err(Rule::Game.at(Place::Entry(i))),
+        None => Ok(()),
     }
-    Ok(())
 }

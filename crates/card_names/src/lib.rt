@@ -5,12 +5,11 @@
 ghost use Rattle.std.specs.Prelude.{◌≡◌, ℕ, ◌+◌, ◌≤◌, ◌<◌, length, Some};
 ghost use Rattle.verdicts.specs.Rows.{result_verdict};
 ghost use Rattle.card_model.specs.Layout.{directory_of};
-ghost use Rattle.card_model.specs.Entries.{name_of, name_row};
-ghost use Rattle.card_directory.specs.Listed.{Listed};
+ghost use Rattle.card_model.specs.Entries.{name_row};
 ghost use Rattle.card_names.specs.Slots as hash;
 
-use card_directory::entry::entry_at;
-use card_model::LENGTH;
+use card_directory::directory::Directory;
+use card_directory::entry::{entry_at, name_of};
 use verdicts::{CardError, Place, Rule};
 
 // The parts of a name in one. Each is rotated by another amount, so that digits that differ at the same place of two parts do not
@@ -39,32 +38,22 @@ fn slot_of(name: &[u8; 12]) -> usize
     747796405 * (parts as usize) / 16777216 % 2048
 }
 
-// The name of an entry.
-#[tactic(auto, unfolding(card_model::specs::Entries::name_of))]
-fn name_of(entry: &[u8; 32]) -> &[u8; 12]
-    ensures { result.now ≡ name_of entry.now }
-{
-    entry[4..16].as_array().unwrap()
-}
-
 // The last listed entry of this name, from the last one of its slot on back.
 fn find_back(
-    card: &[u8; LENGTH],
-    used: &[u8],
+    directory: Directory<'_>,
     next: &[Option<u8>; 208],
     start: Option<u8>,
     name: &[u8; 12],
 ) -> Option<usize>
-    requires listed { Listed (directory_of card.now) 208 used.now (length used.now) }
-    requires within { hash.up_to start ≤ length used.now }
-    requires chained { hash.Chained (directory_of card.now) used.now next.now (hash.up_to start) }
-    requires in_slot { (j : ℕ) → start ≡ Some j → hash.slot_at (directory_of card.now) used.now j ≡ hash.slot_of name.now }
-    ensures { hash.LastOf (hash.name_at (directory_of card.now) used.now) name.now (hash.up_to start) result }
+    requires within { hash.up_to start ≤ length directory.used.now }
+    requires chained { hash.Chained (directory_of directory.card.now) directory.used.now next.now (hash.up_to start) }
+    requires in_slot { (j : ℕ) → start ≡ Some j → hash.slot_at (directory_of directory.card.now) directory.used.now j ≡ hash.slot_of name.now }
+    ensures { hash.LastOf (hash.name_at (directory_of directory.entry.card.now) directory.entry.used.now) name.now (hash.up_to start) result }
 {
     let mut at = start;
     while let Some(k) = at {
         let k = usize::from(k);
-        if name_of(entry_at(card, usize::from(used[k]))) == name {
+        if name_of(entry_at(directory.card, usize::from(directory.used[k]))) == name {
             return Some(k);
         }
         at = next[k];
@@ -73,18 +62,17 @@ fn find_back(
 }
 
 // The refusal at the first entry whose name is taken, from the list of the used entries.
-pub fn name_row(card: &[u8; LENGTH], used: &[u8]) -> Result<(), CardError>
-    requires { Listed (directory_of card.now) 208 used.now (length used.now) }
-    ensures { result_verdict result ≡ name_row (directory_of card.now) }
+pub fn name_row(directory: Directory<'_>) -> Result<(), CardError>
+    ensures { result_verdict result ≡ name_row (directory_of directory.entry.card.now) }
 {
     let mut slots = [None; 2048];
     let mut next = [None; 208];
-    for (j, &i) in used.iter().enumerate() {
+    for (j, &i) in directory.used.iter().enumerate() {
         let i = usize::from(i);
-        let name = name_of(entry_at(card, i));
+        let name = name_of(entry_at(directory.card, i));
         let slot = slot_of(name);
         let earlier = slots[slot];
-        if find_back(card, used, &next, earlier, name).is_some() {
+        if find_back(directory, &next, earlier, name).is_some() {
             return Err(Rule::SameName.at(Place::Entry(i)));
         }
         next[j] = earlier;

@@ -1,27 +1,31 @@
-use mathlib.Core.Path.{sym, ap, ◌∙◌}
-use native.Mathlib.Omega.{arith}
+use Rattle.std.proofs.Common.{rules, refl, ap, ◌∙◌, ◌<◌, ℕ, Bool, List, get_or}
 use Rattle.verdicts.specs.declared.Place.TheVariants.{Entry}
 use Rattle.verdicts.specs.Rows.{row_over}
-use Rattle.card_model.specs.Files.{game_row}
-use Rattle.card_directory.proofs.ListedLaws.{first_from, found_here, found-later, found_none}
+use Rattle.card_model.specs.Layout.{table_of, directory_of}
+use Rattle.card_model.specs.Files.{breaks_game_rule, game_row}
+use Rattle.card_directory.proofs.ListedLaws.{first_from, found-listed}
 use Rattle.card_games.proofs.GameLaws.{unused-game}
-use Rattle.card_games.proofs.game_row.Invariants.{breaks}
 use Rattle.card_games.proofs.game_row.Goals as goal
 
-pub returns-then-breaks_game_rule : goal.returns-then-breaks_game_rule
-unfolding game_row first_from
-returns-then-breaks_game_rule c =
-    let q = sym c.breaks_game_rule.ensures ∙ c.if-breaks_game_rule.true in
-    let f = found_here _ (breaks c.args.card.now) (unused-game _ _) c.requires.listed c.loop-i.i-index _ c.from-i.ensures (omega arith) q in
-    rw c.at.ensures (ap (row_over _ Entry) (sym (c.loop-i.invariant ∙ f)))
+-- whether an entry breaks rule 30
+abbrev breaks : List ℕ → ℕ → Bool
+breaks card = breaks_game_rule (table_of card) (directory_of card)
 
-pub loop-i-preserved : goal.loop-i-preserved
-loop-i-preserved c =
-    let q = sym c.breaks_game_rule.ensures ∙ c.if-breaks_game_rule.false in
-    c.loop-i.invariant ∙ found-later _ (breaks c.args.card.now) (unused-game _ _) c.requires.listed c.loop-i.i-index _ c.from-i.ensures (omega arith) q
+pub find_used-requires : goal.find_used-requires
+find_used-requires c j h =
+    let below : get_or c.args.directory.used.now j 0 < 208 = (c.args.directory.listed.each j h).before_end in
+    search rules
 
-pub returns : goal.returns
+pub returns-in-Some : goal.returns-in-Some
 unfolding game_row first_from
-returns c =
-    let f = found_none _ (breaks c.args.card.now) (unused-game _ _) c.requires.listed c.loop-i.i-index (omega arith) in
-    ap (row_over _ Entry) (sym (c.loop-i.invariant ∙ f))
+returns-in-Some c =
+    let card = c.args.directory.card.now in
+    let found = c.in-Some.ensures (breaks card) (λ j h r q. search rules) ∙ found-listed c.args.directory.listed (breaks card) (breaks card) (unused-game _ _) (λ i u. refl) in
+    rw c.at.ensures (ap (row_over 30 Entry) found)
+
+pub returns-in-None : goal.returns-in-None
+unfolding game_row first_from
+returns-in-None c =
+    let card = c.args.directory.card.now in
+    let found = c.in-None.ensures (breaks card) (λ j h r q. search rules) ∙ found-listed c.args.directory.listed (breaks card) (breaks card) (unused-game _ _) (λ i u. refl) in
+    ap (row_over 30 Entry) found

@@ -5,7 +5,7 @@ use Rattle.card_names.proofs.NameLaws.{Sought}
 use Rattle.card_names.proofs.find_back.Given as goal
 
 abbrev pub invariant-loop-at : goal.invariant-loop-at
-invariant-loop-at l = Sought (directory_of l.card) l.used l.name (up_to l.fn.start) l.at
+invariant-loop-at l = Sought (directory_of l.directory.card.now) l.directory.used.now l.name (up_to l.fn.start) l.at
 
 abbrev pub decreases-loop-at : goal.decreases-loop-at
 decreases-loop-at l = up_to l.at

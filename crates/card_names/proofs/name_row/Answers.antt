@@ -18,24 +18,24 @@ unfolding name_row first_from
 returns-then-is_some c =
     let is-name = c.name_of-name.ensures ∙ ap name_of c.entry_at.ensures in
     let newest = c.loop-j.invariant.slots.newest _ c.slot_of-slot.ensures.1 in
-    let taken = taken-found _ _ c.requires c.loop-j.j _ c.from-i.ensures (omega arith) is-name c.slot_of-slot.ensures.0 newest c.find_back.ensures ∙ sym c.is_some.ensures ∙ c.if-is_some.true in
-    let found = found_here _ (name_taken (directory_of c.args.card.now)) (unused-free _) c.requires c.loop-j.j _ c.from-i.ensures (omega arith) taken in
+    let taken = taken-found _ _ c.args.directory.listed c.loop-j.j _ c.from-i.ensures (omega arith) is-name c.slot_of-slot.ensures.0 newest c.find_back.ensures ∙ sym c.is_some.ensures ∙ c.if-is_some.true in
+    let found = found_here _ (name_taken (directory_of c.args.directory.card.now)) (unused-free _) c.args.directory.listed c.loop-j.j _ c.from-i.ensures (omega arith) taken in
     rw c.at.ensures (ap (row_over _ Entry) (sym (c.loop-j.invariant.passed ∙ found)))
 
 pub loop-j-preserved : goal.loop-j-preserved
 loop-j-preserved c =
-    let directory = directory_of c.args.card.now in
+    let directory = directory_of c.args.directory.card.now in
     let is-name = c.name_of-name.ensures ∙ ap name_of c.entry_at.ensures in
     let newest = c.loop-j.invariant.slots.newest _ c.slot_of-slot.ensures.1 in
-    let free = taken-found _ _ c.requires c.loop-j.j _ c.from-i.ensures (omega arith) is-name c.slot_of-slot.ensures.0 newest c.find_back.ensures ∙ sym c.is_some.ensures ∙ c.if-is_some.false in
+    let free = taken-found _ _ c.args.directory.listed c.loop-j.j _ c.from-i.ensures (omega arith) is-name c.slot_of-slot.ensures.0 newest c.find_back.ensures ∙ sym c.is_some.ensures ∙ c.if-is_some.false in
     let slot-is = c.slot_of-slot.ensures.0 ∙ ap slot_of is-name ∙ ap (λ (i : ℕ). slot_of (name_of (entry_at directory i))) c.from-i.ensures in
     record {
-      slots = slots_next _ _ _ c.loop-j.invariant.slots (omega (arith, c.requires.fits)) slot-is c.slot_of-slot.ensures.1 refl;
-      passed = c.loop-j.invariant.passed ∙ found-later _ (name_taken directory) (unused-free _) c.requires c.loop-j.j _ c.from-i.ensures (omega arith) free;
+      slots = slots_next _ _ _ c.loop-j.invariant.slots (omega (arith, c.args.directory.listed.fits)) slot-is c.slot_of-slot.ensures.1 refl;
+      passed = c.loop-j.invariant.passed ∙ found-later _ (name_taken directory) (unused-free _) c.args.directory.listed c.loop-j.j _ c.from-i.ensures (omega arith) free;
     }
 
 pub returns : goal.returns
 unfolding name_row first_from
 returns c =
-    let found = found_none _ (name_taken (directory_of c.args.card.now)) (unused-free _) c.requires c.loop-j.j (omega arith) in
+    let found = found_none _ (name_taken (directory_of c.args.directory.card.now)) (unused-free _) c.args.directory.listed c.loop-j.j (omega arith) in
     ap (row_over _ Entry) (sym (c.loop-j.invariant.passed ∙ found))

@@ -9,6 +9,6 @@ use Rattle.card_names.proofs.name_row.Given as goal
 
 abbrev pub invariant-loop-j : goal.invariant-loop-j
 invariant-loop-j l = record {
-  slots : Slots (directory_of l.card) l.used l.slots l.next l.j;
-  passed : first_from (name_taken (directory_of l.card)) 0 ≡ first_from (name_taken (directory_of l.card)) (reached l.used l.j);
+  slots : Slots (directory_of l.directory.card.now) l.directory.used.now l.slots l.next l.j;
+  passed : first_from (name_taken (directory_of l.directory.card.now)) 0 ≡ first_from (name_taken (directory_of l.directory.card.now)) (reached l.directory.used.now l.j);
 }
