@@ -103,10 +103,6 @@ module _ (directory : List (List ℕ)) (e : done ≡ entry_row directory) where
       let a = unless-accepts (chain_row table directory) _ (ap accepted (sym q)) in
       record { fields = entries_right; chains = below-accepts 27 Entry _ 208 refl a.0 }
 
--- the slice that is handed on is the list
-pub listed_slice : (directory : List (List ℕ)) (used slice : List ℕ) → slice ≡ used → Listed directory 208 used (length used) → Listed directory 208 slice (length slice)
-listed_slice directory used slice e l = rw e l
-
 pub open_card : (s used marks : List ℕ) → done ≡ verdict_of s → Listed (directory_of s) 208 used (length used)
     → MarkedFiles (table_of s) (files_before (table_of s) (directory_of s) 208) marks → OpenCard s used marks
 open_card s used marks v l m = record { rows = accepted-rows s (ap accepted (sym v)); listed = l; marked = m }
@@ -114,4 +110,4 @@ open_card s used marks v l m = record { rows = accepted-rows s (ap accepted (sym
 pub same_card : (r : Result Opened CardError) (s card : List ℕ) → s ≡ card → IfOk r (λ o. o.card.now ≡ s) → IfOk r (λ o. o.card.now ≡ card)
 same_card r s card e h = simp e at h
 
-pub ruleset rows = (by_table, by_26, by_chains, by_29, by_30, entries_right, chains_good, listed_slice, open_card)
+pub ruleset rows = (by_table, by_26, by_chains, by_29, by_30, entries_right, chains_good, open_card)

@@ -8,6 +8,7 @@ ghost use Rattle.card_model.specs.Calls.{verdict_of, entry_named};
 ghost use Rattle.card_check.specs.Opening.{OpenCard};
 
 use card_chains::walk_files;
+use card_directory::directory::Directory;
 use card_directory::search::find_named;
 use card_directory::used::{UsedEntries, entry_row, list_used};
 use card_games::game_row;
@@ -33,12 +34,15 @@ fn open_right_length(card: &[u8; LENGTH]) -> Result<Opened<'_>, CardError>
 {
     table_verdict(card)?;
     let used = list_used(card);
-    let entries = used.as_slice();
-    entry_row(card, entries)?;
+    let directory = Directory {
+        card,
+        used: used.as_slice(),
+    };
+    entry_row(directory)?;
     let mut marks = [0u8; 200];
-    walk_files(card, entries, &mut marks)?;
-    name_row(card, entries)?;
-    game_row(card, entries)?;
+    walk_files(directory, &mut marks)?;
+    name_row(directory)?;
+    game_row(directory)?;
     Ok(Opened { card, used, marks })
 }
 
@@ -59,6 +63,10 @@ impl Opened<'_> {
     pub fn named(&self, name: &[u8]) -> Option<usize>
         ensures { result ≡ entry_named (directory_of self.now.card.now) name.now }
     {
-        find_named(self.card, self.used.as_slice(), name)
+        let directory = Directory {
+            card: self.card,
+            used: self.used.as_slice(),
+        };
+        find_named(directory, name)
     }
 }
