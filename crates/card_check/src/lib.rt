@@ -12,8 +12,8 @@ use card_directory::directory::Directory;
 use card_directory::search::find_named;
 use card_directory::used::{UsedEntries, entry_row, list_used};
 use card_games::game_row;
-use card_names::name_row;
 use card_model::LENGTH;
+use card_names::name_row;
 use card_table::table_verdict;
 use verdicts::{CardError, Place, Rule};
 

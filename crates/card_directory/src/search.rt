@@ -36,5 +36,8 @@ pub fn find_named(directory: Directory<'_>, name: &[u8]) -> Option<usize>
     let Ok(name) = <&[u8; 12]>::try_from(name) else {
         return None;
     };
-    find_used(directory.used, |i| name_of(entry_at(directory.card, i)) == name)
+    find_used(
+        directory.used,
+        |i| name_of(entry_at(directory.card, i)) == name,
+    )
 }
