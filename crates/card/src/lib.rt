@@ -173,7 +173,7 @@ fn put_file(card: &mut [u8; LENGTH], i: usize, blocks: &[u8], file: DataFile<'_>
 }
 
 // Writes a data file; past the check it refuses 33, 26, 29 and 34, in this order.
-#[tactic(auto, using(crate::proofs::WriteLaws::by_check, crate::proofs::WriteLaws::by_file))]
+#[tactic(auto, using(crate::proofs::WriteLaws::writes), unfolding(card_model::specs::Layout::card_length))]
 pub fn write(
     card: &mut [u8],
     name: &[u8],
