@@ -12,6 +12,7 @@ use lib.ListN.{length, get_or, take, drop}
 use Rattle.words.proofs.Bools.{and-true-left}
 use Rattle.words.proofs.SearchLaws.{lowest-some}
 use Rattle.verdicts.specs.declared.Place.TheVariants.{Whole}
+use Rattle.verdicts.specs.declared.Rule.TheVariants.{NoFile, Lengths}
 use Rattle.verdicts.specs.declared.CardError.{CardError}
 use Rattle.verdicts.specs.Rows.{Verdict, done, refused_at, error_verdict}
 use Rattle.verdicts.proofs.RowLaws.{error-refuses, error_first, passed_first}
@@ -33,41 +34,52 @@ named-used card name i e =
 
 module _ (card name : List ℕ) (index : ℕ) (buffer : List ℕ) where
   -- a read that is refused leaves the buffer
-  pub read_kept : (e : CardError) → error_verdict e ≡ read_verdict card name index buffer → buffer ≡ read_buffer card name index buffer
+  read_kept : (e : CardError) → error_verdict e ≡ read_verdict card name index buffer → buffer ≡ read_buffer card name index buffer
   unfolding read_buffer
   read_kept e q = rw (← q, error-refuses e)
 
-  pub read_refused : (e : CardError) → error_verdict e ≡ verdict_of card → error_verdict e ≡ read_verdict card name index buffer
+  pub by_check : (e : CardError) → error_verdict e ≡ verdict_of card → error_verdict e ≡ read_verdict card name index buffer
   unfolding read_verdict
-  read_refused e q = sym (error_first e (verdict_of card) _ q)
+  by_check e q = sym (error_first e (verdict_of card) _ q)
+
+  pub kept_by_check : (e : CardError) → error_verdict e ≡ verdict_of card → buffer ≡ read_buffer card name index buffer
+  kept_by_check e q = read_kept e (by_check e q)
 
   module _ (v : done ≡ verdict_of card) where
     past-check : read_verdict card name index buffer ≡ read_rows (directory_of card) name index buffer
     unfolding read_verdict
     past-check = passed_first _ _ v
 
-    pub read_33 : (length name ≢ 12) ⊎ ((length name ≡ 12) × (length buffer ≢ 512)) → refused_at 33 Whole ≡ read_verdict card name index buffer
+    pub by_33 : (length name ≢ 12) ⊎ ((length name ≡ 12) × (length buffer ≢ 512)) → refused_at 33 Whole ≡ read_verdict card name index buffer
     unfolding read_rows
-    read_33 (inl n) = rw (past-check, ne_eqb (length name) 12 n)
-    read_33 (inr n) = rw (past-check, ne_eqb (length buffer) 512 n.1, or-true)
+    by_33 (inl n) = rw (past-check, ne_eqb (length name) 12 n)
+    by_33 (inr n) = rw (past-check, ne_eqb (length buffer) 512 n.1, or-true)
+
+    pub kept_by_33 : (length name ≢ 12) ⊎ ((length name ≡ 12) × (length buffer ≢ 512)) → buffer ≡ read_buffer card name index buffer
+    kept_by_33 n = read_kept (record { rule = Lengths; place = Whole }) (by_33 n)
 
     pub past_33 : length name ≡ 12 → length buffer ≡ 512 → read_verdict card name index buffer ≡ index_row (directory_of card) index (entry_named (directory_of card) name)
     unfolding read_rows
     past_33 n l = rw (past-check, n, l)
 
     -- s is the card that was opened
-    module _ (n : length name ≡ 12) (l : length buffer ≡ 512) {s : List ℕ} (q : s ≡ card) where
-      pub read_31 : entry_named (directory_of s) name ≡ None → refused_at 31 Whole ≡ read_verdict card name index buffer
-      read_31 h = rw (past_33 n l, ← q, h)
+    module _ (n : length name ≡ 12) (l : length buffer ≡ 512) (s : List ℕ) (q : s ≡ card) where
+      pub by_31 : entry_named (directory_of s) name ≡ None → refused_at 31 Whole ≡ read_verdict card name index buffer
+      by_31 h = rw (past_33 n l, ← q, h)
+
+      pub kept_by_31 : entry_named (directory_of s) name ≡ None → buffer ≡ read_buffer card name index buffer
+      kept_by_31 h = read_kept (record { rule = NoFile; place = Whole }) (by_31 h)
 
       -- the rest of the read, from the entry that has the name
-      module _ (i : ℕ) (h : entry_named (directory_of s) name ≡ Some i) {r : Verdict} (e : r ≡ index_row (directory_of s) index (Some i)) where
+      module _ (i : ℕ) (h : entry_named (directory_of s) name ≡ Some i) (r : Verdict) (e : r ≡ index_row (directory_of s) index (Some i)) where
         pub read_as : r ≡ read_verdict card name index buffer
         read_as = e ∙ rw (past_33 n l, ← q, h)
 
-        pub left_as : {left : List ℕ} → left ≡ left_by r s index (Some i) buffer → left ≡ read_buffer card name index buffer
+        pub left_as : (left : List ℕ) → left ≡ left_by r s index (Some i) buffer → left ≡ read_buffer card name index buffer
         unfolding read_buffer
-        left_as w = w ∙ rw (read_as, ← q, h)
+        left_as left w = w ∙ rw (read_as, ← q, h)
+
+pub ruleset reads = (by_check, kept_by_check, by_33, kept_by_33, by_31, kept_by_31)
 
 -- ---- the block at an index of entry i's file, where s is the entry
 

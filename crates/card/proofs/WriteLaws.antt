@@ -2,7 +2,9 @@
 use Prim.Native.Nat.{ℕ, ◌≤◌, ◌<◌}
 use mathlib.Core.Path.{◌≡◌, sym, ap, ◌∙◌}
 use mathlib.Core.List.{List}
+use mathlib.Core.Bool.{true}
 use Rattle.std.specs.Prelude.{Some}
+use Rattle.words.specs.Lists.{is_some}
 use lib.ListN.{length, get_or, take}
 use borrow.Author.Tests.{lt-ltb, le-ltb}
 use Rattle.words.proofs.ListLaws.{all-at}
@@ -14,6 +16,8 @@ use Rattle.verdicts.proofs.RowLaws.{error-refuses, error_first, passed_first}
 use Rattle.card_model.specs.Layout.{table_of, directory_of}
 use Rattle.card_model.specs.Calls.{verdict_of}
 use Rattle.card_updates.specs.Write.{NewFile, given_file, blocks_of, free_blocks, lowest_unused, data_rows, taken_row, room_row, write_rows, write_verdict, with_file, taken_blocks, written}
+use Rattle.card_updates.proofs.RoomLaws.{never_full}
+use Rattle.card_directory.specs.Listed.{Listed}
 use Rattle.card_updates.proofs.WriteLaws.{PassedRows, passed-rows, taken-holds}
 
 module _ (card : List ℕ) (flag : ℕ) (name time content : List ℕ) (offset : ℕ) where
@@ -83,8 +87,14 @@ module _ (card : List ℕ) (flag : ℕ) (name time content : List ℕ) (offset :
           pub in_user : (j : ℕ) → j < length (take size free) → get_or (take size free) j 0 < 200
           in_user = rw taken-are (λ j h. all-at (λ b. b < 200) (taken_blocks card f) j (taken-holds card f offset passed).low h 0)
 
-          pub wrote : (i : ℕ) → lowest_unused (directory_of card) ≡ Some i → {after : List ℕ} → after ≡ with_file card 0x33 f offset (take size free) i → after ≡ written card f offset
+          -- i is the lowest unused entry of any directory that has the list
+          pub lowest : {used slice : List ℕ} {i : ℕ} → Listed (directory_of s) 208 used (length used) → slice ≡ used
+              → ((directory : List (List ℕ)) → Listed directory 208 slice (length slice) → is_some (lowest_unused directory) ≡ true → lowest_unused directory ≡ Some i)
+              → lowest_unused (directory_of card) ≡ Some i
+          lowest u e h = h (directory_of card) (rw (e, ← q) u) (never_full card passed.is_sound)
+
+          pub wrote : {i : ℕ} → lowest_unused (directory_of card) ≡ Some i → {after : List ℕ} → after ≡ with_file card 0x33 f offset (take size free) i → after ≡ written card f offset
           unfolding written
-          wrote i u a = a ∙ rw (taken-are, ← write_done, u)
+          wrote u a = a ∙ rw (taken-are, ← write_done, u)
 
 pub ruleset writes = (by_check, kept_by_check, by_file, kept_by_file, by_29, kept_by_29, by_34, kept_by_34, write_done)

@@ -77,7 +77,7 @@ fn read_block(card: &[u8; LENGTH], i: usize, index: usize, block: &mut [u8; 512]
 }
 
 // Reads a block of the file of this name into the buffer; past the check it refuses 33, 31 and 32, in this order.
-#[tactic(auto, using(crate::proofs::ReadLaws::read_refused, crate::proofs::ReadLaws::read_33, crate::proofs::ReadLaws::read_31, crate::proofs::ReadLaws::read_kept))]
+#[tactic(auto, using(crate::proofs::ReadLaws::reads))]
 pub fn read(card: &[u8], name: &[u8], index: usize, block: &mut [u8]) -> Result<(), CardError>
     ensures value { result_verdict result ≡ read_verdict card.now name.now index block.old }
     ensures block_after { block.new ≡ read_buffer card.now name.now index block.old }
@@ -212,7 +212,7 @@ fn remove_file(card: &mut [u8; LENGTH], i: usize)
 }
 
 // Deletes the file of this name, data or game; past the check it refuses 33 and 31, in this order.
-#[tactic(auto, using(crate::proofs::DeleteLaws::by_check, crate::proofs::DeleteLaws::by_33, crate::proofs::DeleteLaws::by_31))]
+#[tactic(auto, using(crate::proofs::DeleteLaws::deletes), unfolding(card_model::specs::Layout::card_length))]
 pub fn delete(card: &mut [u8], name: &[u8]) -> Result<(), CardError>
     ensures value { result_verdict result ≡ delete_verdict card.old name.now }
     ensures card_after { card.new ≡ deleted card.old name.now }

@@ -3,12 +3,9 @@ use Prim.Native.Nat.{ℕ, ◌*◌}
 use mathlib.Core.Path.{◌≡◌, ◌∙◌}
 use native.Mathlib.Omega.{arith}
 use lib.ListN.{length}
-use Rattle.card_model.specs.Layout.{directory_of}
-use Rattle.card_directory.specs.Listed.{Listed}
 use Rattle.card_updates.specs.Write.{NewFile, blocks_of}
-use Rattle.card_updates.proofs.RoomLaws.{never_full}
 use Rattle.card_updates.proofs.WriteLaws.{unused-at}
-use Rattle.card.proofs.WriteLaws.{passed, in_user, wrote}
+use Rattle.card.proofs.WriteLaws.{in_user, lowest, wrote}
 use Rattle.card.proofs.write.Goals as goal
 
 -- the size of the file in blocks
@@ -19,11 +16,11 @@ sized {g} same whole {n} e =
 
 pub put_file-requires-clause-in_directory : goal.put_file-requires-clause-in_directory
 put_file-requires-clause-in_directory c =
-    let opened = c.in_ok-opened.ensures.opened in
     let file = sized c.in_ok-file.ensures.file.0 c.in_ok-file.file.whole_blocks c.from-size.ensures in
-    let p = passed _ _ _ _ _ _ c.in_ok-opened.ensures.verdict c.in_ok-file.ensures.verdict _ opened c.in_ok-taken_row.ensures _ (c.as_slice-blocks.ensures ∙ c.list_free-free.ensures) _ file c.if-blocks-size.false in
-    let listed : Listed (directory_of c.args.card.now) 208 c.as_slice.result.now (length c.as_slice.result.now) = rw (c.as_slice.ensures, ← opened) c.in_ok-opened.opened.is_open.listed in
-    (unused-at c.args.card.now _ (c.lowest_unused-i.ensures _ listed (never_full _ p.is_sound))).in_directory
+    (unused-at c.args.card.now _
+    (lowest _ _ _ _ _ _ c.in_ok-opened.ensures.verdict c.in_ok-file.ensures.verdict _ c.in_ok-opened.ensures.opened c.in_ok-taken_row.ensures _
+    (c.as_slice-blocks.ensures ∙ c.list_free-free.ensures) _ file c.if-blocks-size.false
+    c.in_ok-opened.opened.is_open.listed c.as_slice.ensures c.lowest_unused-i.ensures)).in_directory
 
 pub put_file-requires-clause-user_blocks : goal.put_file-requires-clause-user_blocks
 put_file-requires-clause-user_blocks c =
@@ -33,12 +30,11 @@ put_file-requires-clause-user_blocks c =
 
 pub returns-clause-card_after : goal.returns-clause-card_after
 returns-clause-card_after c =
-    let opened = c.in_ok-opened.ensures.opened in
     let file = sized c.in_ok-file.ensures.file.0 c.in_ok-file.file.whole_blocks c.from-size.ensures in
-    let free = c.as_slice-blocks.ensures ∙ c.list_free-free.ensures in
-    let p = passed _ _ _ _ _ _ c.in_ok-opened.ensures.verdict c.in_ok-file.ensures.verdict _ opened c.in_ok-taken_row.ensures _ free _ file c.if-blocks-size.false in
-    let listed : Listed (directory_of c.args.card.now) 208 c.as_slice.result.now (length c.as_slice.result.now) = rw (c.as_slice.ensures, ← opened) c.in_ok-opened.opened.is_open.listed in
     let whole = rw c.unwrap-card.ensures at c.as_mut_array.ensures.cases in
-    wrote _ _ _ _ _ _ c.in_ok-opened.ensures.verdict c.in_ok-file.ensures.verdict _ opened c.in_ok-taken_row.ensures _ free _ file c.if-blocks-size.false
-    c.lowest_unused-i.result (c.lowest_unused-i.ensures _ listed (never_full _ p.is_sound))
+    wrote _ _ _ _ _ _ c.in_ok-opened.ensures.verdict c.in_ok-file.ensures.verdict _ c.in_ok-opened.ensures.opened c.in_ok-taken_row.ensures _
+    (c.as_slice-blocks.ensures ∙ c.list_free-free.ensures) _ file c.if-blocks-size.false
+    (lowest _ _ _ _ _ _ c.in_ok-opened.ensures.verdict c.in_ok-file.ensures.verdict _ c.in_ok-opened.ensures.opened c.in_ok-taken_row.ensures _
+    (c.as_slice-blocks.ensures ∙ c.list_free-free.ensures) _ file c.if-blocks-size.false
+    c.in_ok-opened.opened.is_open.listed c.as_slice.ensures c.lowest_unused-i.ensures)
     (rw (whole.same, c.in_ok-file.ensures.file.0, c.in_ok-file.ensures.file.1) at c.put_file.ensures)
