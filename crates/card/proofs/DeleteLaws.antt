@@ -67,9 +67,9 @@ module _ (card name : List ℕ) where
 pub ruleset deletes = (by_check, kept_by_check, by_33, kept_by_33, by_31, kept_by_31)
 
 -- the file that is taken off
-pub file-chained : (card : List ℕ) → NoRowRefuses card → (i : ℕ) → UsedEntry card i → {s : List ℕ} → s ≡ entry_on card i → {first left : ℕ} → first ≡ first_block s → left ≡ size s
+pub file_chained : (card : List ℕ) → NoRowRefuses card → (i : ℕ) → UsedEntry card i → (s : List ℕ) → s ≡ entry_on card i → (first left : ℕ) → first ≡ first_block s → left ≡ size s
     → SoundChain (table_of card) left first (file_on card i)
-file-chained card rows i u e f l =
+file_chained card rows i u s e first left f l =
     let is_sound : SoundCard card = (sound_exactly card).1 rows in
     record {
       is_chain = rw (l, f, e) (file-is-chain card is_sound i u);

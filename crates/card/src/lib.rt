@@ -35,6 +35,7 @@ pub fn check(card: &[u8]) -> Result<usize, CardError>
 }
 
 // Entry i, from its own bytes.
+#[tactic(auto, unfolding(card_model::specs::Calls::listed_entry, card_model::specs::Entries::kind, card_model::specs::Entries::flag, card_model::specs::Entries::name_of, card_model::specs::Entries::time_of))]
 fn listing_of(i: usize, found: &[u8; 32]) -> ListedEntry
     ensures { list_answer (Ok result) ≡ listed_entry i found.now }
 {
@@ -111,6 +112,7 @@ struct DataFile<'a> {
 }
 
 // Refusals 33 and 26 of a data file, which look at nothing of the card.
+#[tactic(auto, unfolding(card_updates::specs::Write::data_rows, card_updates::specs::Write::bad_lengths))]
 fn data_file<'a>(
     name: &'a [u8],
     time: &'a [u8],
@@ -145,6 +147,7 @@ fn data_file<'a>(
 }
 
 // Refusal 29: the entry that has the name.
+#[tactic(auto, unfolding(card_updates::specs::Write::taken_row))]
 fn taken_row(opened: &Opened<'_>, name: &[u8]) -> Result<(), CardError>
     ensures { result_verdict result ≡ taken_row (directory_of opened.now.card.now) name.now }
 {
@@ -155,6 +158,7 @@ fn taken_row(opened: &Opened<'_>, name: &[u8]) -> Result<(), CardError>
 }
 
 // The file goes into these blocks and into entry i.
+#[tactic(auto, unfolding(card_updates::specs::Write::with_file))]
 fn put_file(card: &mut [u8; LENGTH], i: usize, blocks: &[u8], file: DataFile<'_>)
     requires in_directory { i < 208 }
     requires of_its_size { length blocks.now ≡ file.size }
@@ -200,6 +204,7 @@ pub fn write(
 }
 
 // Takes the file of entry i off the card: its chain becomes free and its entry zeros. The bytes of its blocks stay.
+#[tactic(auto, using(crate::proofs::ReadLaws::first_below, crate::proofs::DeleteLaws::file_chained), unfolding(card_updates::specs::Delete::without_file))]
 fn remove_file(card: &mut [u8; LENGTH], i: usize)
     requires { NoRowRefuses card.old × UsedEntry card.old i }
     ensures { card.new ≡ without_file card.old i }
