@@ -3,7 +3,7 @@ use Prim.Native.Nat.{ℕ, ◌<◌, ◌-◌}
 use mathlib.Core.Path.{◌≡◌}
 use mathlib.Core.List.{List}
 use native.Mathlib.Omega.{arith}
-use Rattle.std.specs.Prelude.{Option, None, Some, Ok, Err}
+use Rattle.std.specs.Prelude.{None, Some, Ok, Err}
 use Rattle.words.proofs.SearchLaws.{lowest-some}
 use Rattle.verdicts.specs.declared.Place.TheVariants.{Whole}
 use Rattle.verdicts.specs.declared.Rule.TheVariants.{NoFile}
@@ -23,6 +23,8 @@ pub check_passed : (card : List ℕ) (n : ℕ) → done ≡ verdict_of card → 
 unfolding check_of
 check_passed card n q o = rw (← q, o)
 
+pub ruleset checks = (check_refused, check_passed)
+
 pub list_refused : (card : List ℕ) (start : ℕ) (e : CardError) → error_verdict e ≡ verdict_of card → list_answer (Err e) ≡ list_of card start
 unfolding list_of
 list_refused card start e q = rw (← q, error-refuses e)
@@ -35,6 +37,8 @@ list_none card start q n = rw (← q, n)
 pub list_some : (card : List ℕ) (start i : ℕ) → done ≡ verdict_of card → first_used (directory_of card) start ≡ Some i → listed_from (directory_of card) (Some i) ≡ list_of card start
 unfolding list_of
 list_some card start i q n = rw (← q, n)
+
+pub ruleset lists = (list_refused, list_none, list_some)
 
 -- an entry that a listing found is in the directory
 pub used_below : (directory : List (List ℕ)) (start i : ℕ) → first_used directory start ≡ Some i → i < 208

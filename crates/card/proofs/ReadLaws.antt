@@ -1,5 +1,5 @@
 -- A read from a sound card: rows 33, 31 and 32, or the block. Assumes nothing.
-use Prim.Native.Nat.{ℕ, ◌+◌, ◌-◌, ◌*◌, ◌≤◌, ◌<◌}
+use Prim.Native.Nat.{ℕ, ◌+◌, ◌-◌, ◌*◌, ◌<◌}
 use mathlib.Core.Path.{◌≡◌, sym, ◌∙◌}
 use mathlib.Core.Bool.{true, or-true}
 use mathlib.Core.List.{List}
@@ -26,9 +26,9 @@ use Rattle.card_chains.specs.Steps.{block_after}
 use Rattle.card_chains.proofs.StepLaws.{block-of-chain}
 
 -- an entry that a name found is in the directory, and used
-pub named-used : (card name : List ℕ) (i : ℕ) → entry_named (directory_of card) name ≡ Some i → UsedEntry card i
+pub named_used : (card name : List ℕ) (i : ℕ) → entry_named (directory_of card) name ≡ Some i → UsedEntry card i
 unfolding entry_named is_named
-named-used card name i e =
+named_used card name i e =
     let l = lowest-some (λ j. is_named name (entry_at (directory_of card) j)) 0 208 i e in
     record { in_directory = omega (arith, l.high); is_used_lem = and-true-left _ _ l.passes }
 
@@ -83,7 +83,7 @@ pub ruleset reads = (by_check, kept_by_check, by_33, kept_by_33, by_31, kept_by_
 
 -- ---- the block at an index of entry i's file, where s is the entry
 
-module _ (card : List ℕ) (rows : NoRowRefuses card) (i : ℕ) (u : UsedEntry card i) {s : List ℕ} (es : s ≡ entry_at (directory_of card) i) where
+module _ (card : List ℕ) (rows : NoRowRefuses card) (i : ℕ) (u : UsedEntry card i) (s : List ℕ) (es : s ≡ entry_at (directory_of card) i) where
   used : is_used s ≡ true
   used = rw es u.is_used_lem
 
@@ -94,9 +94,9 @@ module _ (card : List ℕ) (rows : NoRowRefuses card) (i : ℕ) (u : UsedEntry c
   chain-is = file-chain s used (table_of card) (rw es (rows.chains i u.in_directory))
 
   -- b is the block that the steps lead to
-  pub in_file : (index : ℕ) → index < size s → {b : ℕ} → b ≡ block_after (table_of card) (first_block s) index
+  pub in_file : (index : ℕ) → index < size s → (b : ℕ) → b ≡ block_after (table_of card) (first_block s) index
       → take (b * 512 + 512 - b * 512) (drop (b * 512) card) ≡ block_at card (file_block card i index)
   unfolding file_block block_at
-  in_file index h {b} after =
+  in_file index h b after =
       let d : b ≡ get_or (file_of (table_of card) s) index 0 = after ∙ block-of-chain (table_of card) (size s) (first_block s) (file_of (table_of card) s) chain-is index h in
       rw (add-sub_cancel_left (b * 512) 512, ← es, ← d)

@@ -1,6 +1,6 @@
 -- A write, row after row, and the card that it leaves. Assumes nothing.
 use Prim.Native.Nat.{ℕ, ◌≤◌, ◌<◌}
-use mathlib.Core.Path.{◌≡◌, sym, ap, ◌∙◌}
+use mathlib.Core.Path.{◌≡◌, sym, ◌∙◌}
 use mathlib.Core.List.{List}
 use mathlib.Core.Bool.{true}
 use Rattle.std.specs.Prelude.{Some}
@@ -11,7 +11,7 @@ use Rattle.words.proofs.ListLaws.{all-at}
 use Rattle.verdicts.specs.declared.Place.TheVariants.{Whole}
 use Rattle.verdicts.specs.declared.Rule.TheVariants.{NoRoom}
 use Rattle.verdicts.specs.declared.CardError.{CardError}
-use Rattle.verdicts.specs.Rows.{Verdict, done, refused_at, unless_refused, error_verdict}
+use Rattle.verdicts.specs.Rows.{done, refused_at, unless_refused, error_verdict}
 use Rattle.verdicts.proofs.RowLaws.{error-refuses, error_first, passed_first}
 use Rattle.card_model.specs.Layout.{table_of, directory_of}
 use Rattle.card_model.specs.Calls.{verdict_of}

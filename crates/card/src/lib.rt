@@ -21,12 +21,11 @@ use card_directory::search::first_used;
 use card_files::blocks::{free_chain, write_blocks};
 use card_files::entries::{EntryNumbers, clear_entry, lowest_unused, put_entry};
 use card_files::free::list_free;
-use card_model::ListedEntry;
-use card_model::LENGTH;
+use card_model::{LENGTH, ListedEntry};
 use verdicts::{CardError, Place, Rule};
 
 // How many orphans a sound card has.
-#[tactic(auto, using(crate::proofs::AnswerLaws::check_refused, crate::proofs::AnswerLaws::check_passed))]
+#[tactic(auto, using(crate::proofs::AnswerLaws::checks))]
 pub fn check(card: &[u8]) -> Result<usize, CardError>
     ensures { check_answer result ≡ check_of card.now }
 {
@@ -53,7 +52,7 @@ fn listing_of(i: usize, found: &[u8; 32]) -> ListedEntry
 }
 
 // The first used entry from `from` on; 31 where there is none.
-#[tactic(auto, using(crate::proofs::AnswerLaws::list_refused, crate::proofs::AnswerLaws::list_none, crate::proofs::AnswerLaws::list_some))]
+#[tactic(auto, using(crate::proofs::AnswerLaws::lists))]
 pub fn list(card: &[u8], from: usize) -> Result<ListedEntry, CardError>
     ensures { list_answer result ≡ list_of card.now from }
 {
@@ -63,7 +62,13 @@ pub fn list(card: &[u8], from: usize) -> Result<ListedEntry, CardError>
 }
 
 // Refusal 32 of a read from the file of entry i, or its block.
-fn read_block(card: &[u8; LENGTH], i: usize, index: usize, block: &mut [u8; 512]) -> Result<(), CardError>
+#[tactic(auto, using(crate::proofs::ReadLaws::first_below, crate::proofs::ReadLaws::in_file))]
+fn read_block(
+    card: &[u8; LENGTH],
+    i: usize,
+    index: usize,
+    block: &mut [u8; 512],
+) -> Result<(), CardError>
     requires { NoRowRefuses card.now × UsedEntry card.now i }
     ensures value { result_verdict result ≡ index_row (directory_of card.now) index (Some i) }
     ensures block_after { block.new ≡ left_by (result_verdict result) card.now index (Some i) block.old }

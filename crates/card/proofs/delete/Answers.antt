@@ -1,5 +1,5 @@
 use mathlib.Core.Path.{sym, ◌∙◌}
-use Rattle.card.proofs.ReadLaws.{named-used}
+use Rattle.card.proofs.ReadLaws.{named_used}
 use Rattle.card.proofs.DeleteLaws.{delete_done, without_is}
 use Rattle.card.proofs.delete.Goals as goal
 
@@ -7,7 +7,7 @@ pub remove_file-requires : goal.remove_file-requires
 remove_file-requires c =
     let whole = rw c.unwrap-card.ensures at c.as_mut_array.ensures.cases in
     rw (whole.same, ← c.in_ok-opened.ensures.opened)
-    (c.in_ok-opened.opened.is_open.rows, named-used _ c.args.name.now _ (sym c.named.ensures ∙ c.in_ok-i.ensures.ok_part))
+    (c.in_ok-opened.opened.is_open.rows, named_used _ c.args.name.now _ (sym c.named.ensures ∙ c.in_ok-i.ensures.ok_part))
 
 pub returns-clause-value : goal.returns-clause-value
 returns-clause-value c =

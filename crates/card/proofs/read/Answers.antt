@@ -1,9 +1,9 @@
 use mathlib.Core.Path.{sym, ◌∙◌}
-use Rattle.card.proofs.ReadLaws.{named-used, read_as, left_as}
+use Rattle.card.proofs.ReadLaws.{named_used, read_as, left_as}
 use Rattle.card.proofs.read.Goals as goal
 
 pub read_block-requires : goal.read_block-requires
-read_block-requires c = (c.in_ok-opened.opened.is_open.rows, named-used _ c.args.name.now _ (sym c.named.ensures ∙ c.in_ok-i.ensures.ok_part))
+read_block-requires c = (c.in_ok-opened.opened.is_open.rows, named_used _ c.args.name.now _ (sym c.named.ensures ∙ c.in_ok-i.ensures.ok_part))
 
 pub returns-clause-value : goal.returns-clause-value
 returns-clause-value c =
