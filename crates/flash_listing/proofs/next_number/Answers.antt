@@ -21,6 +21,6 @@ returns c =
     let u = c.args.p.usable in
     let l = c.loop-k in
     c.then_some.ensures ∙ elim c.loop-k-test.branch [
-      else-loop-k-test w ↦ rw w.best-is (all-passed u _ c.capacity-end.ensures _ l.k _ (omega arith) l.invariant (omega arith))
+      | else-loop-k-test w ↦ rw w.best-is (all-passed u _ c.capacity-end.ensures _ l.k _ (omega arith) l.invariant (omega arith))
       | then-loop-k-test+then-best-start w ↦ rw w.best-is (start-found u _ c.capacity-end.ensures _ (l.k + 1) _ (omega arith) (best-next _ _ _ _ _ l.invariant l.auto.k _ w.block.ensures _ w.lower-best.ensures) (omega (arith, w.if-best-start.true)))
     ]
