@@ -14,8 +14,8 @@ ghost use Rattle.card_chains.specs.Marks.{no_marks, MarkedFiles};
 ghost use Rattle.card_chains.specs.Rows.{chain_rows};
 
 use crate::walking::{Finding, link_at, walk};
-use card_directory::directory::Directory;
 use card_directory::entry::{entry_at, first_block, size};
+use card_directory::opened_directory::Directory;
 use card_model::LENGTH;
 use card_table::free_or_damaged;
 use verdicts::{CardError, Place, Rule};

@@ -8,7 +8,7 @@ ghost use Rattle.card_model.specs.Calls.{verdict_of, entry_named};
 ghost use Rattle.card_check.specs.Opening.{OpenCard};
 
 use card_chains::walk_files;
-use card_directory::directory::Directory;
+use card_directory::opened_directory::Directory;
 use card_directory::search::find_named;
 use card_directory::used::{UsedEntries, entry_row, list_used};
 use card_games::game_row;

@@ -5,8 +5,8 @@ ghost use Rattle.card_model.specs.Layout.{directory_of};
 ghost use Rattle.card_model.specs.Calls.{first_used, entry_named};
 ghost use Rattle.card_directory.specs.Listed.{Listed, TestsListed};
 
-use crate::directory::Directory;
 use crate::entry::{entry_at, name_of};
+use crate::opened_directory::Directory;
 
 // The first number of the list that passes a test.
 pub fn find_used<F: Fn(usize) -> bool>(used: &[u8], passes: F) -> Option<usize>

@@ -5,8 +5,8 @@ ghost use Rattle.card_model.specs.Layout.{directory_of};
 ghost use Rattle.card_model.specs.Entries.{entry_row};
 ghost use Rattle.card_directory.specs.Listed.{Listed};
 
-use crate::directory::Directory;
 use crate::entry::{entry_at, is_used, wrong_entry};
+use crate::opened_directory::Directory;
 use crate::search::find_used;
 use card_model::LENGTH;
 use verdicts::{CardError, Place, Rule};

@@ -10,8 +10,8 @@ ghost use Rattle.card_model.specs.Entries as model;
 ghost use Rattle.card_model.specs.Files.{chain, or_empty, rising, breaks_game_rule, game_row};
 ghost use Rattle.card_games.specs.Rules.{GoodChains, leads_to};
 
-use card_directory::directory::Directory;
 use card_directory::entry::{entry_at, first_block, is_game, size};
+use card_directory::opened_directory::Directory;
 use card_directory::search::find_used;
 use card_model::{LENGTH, Link};
 use card_table::{classify, fat_entry};

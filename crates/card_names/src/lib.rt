@@ -8,8 +8,8 @@ ghost use Rattle.card_model.specs.Layout.{directory_of};
 ghost use Rattle.card_model.specs.Entries.{name_row};
 ghost use Rattle.card_names.specs.Slots as hash;
 
-use card_directory::directory::Directory;
 use card_directory::entry::{entry_at, name_of};
+use card_directory::opened_directory::Directory;
 use verdicts::{CardError, Place, Rule};
 
 // The parts of a name in one. Each is rotated by another amount, so that digits that differ at the same place of two parts do not

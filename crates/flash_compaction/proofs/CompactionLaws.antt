@@ -15,7 +15,7 @@ use Rattle.flash_model.proofs.BlockLaws.{new-length}
 use Rattle.flash_model.proofs.SoundLaws.{sound-measured}
 use Rattle.flash_model.proofs.RoomLaws.{holders-room, others-fit}
 use Rattle.flash_partition.specs.Usable.{Usable}
-use Rattle.flash_partition.specs.declared.partition.OpenedLog.{OpenedLog}
+use Rattle.flash_partition.specs.declared.opened.OpenedLog.{OpenedLog}
 use Rattle.flash_listing.specs.BlockTests.{NoneMarked, kept_blocks}
 use Rattle.flash_partition.proofs.UsableLaws.{usable-measured}
 use Rattle.flash_moving.specs.Moving.{AllMoved}

@@ -16,7 +16,7 @@ use Rattle.flash_model.specs.UserBlock.{number}
 use Rattle.flash_model.specs.Partition.{block_at}
 use Rattle.flash_model.specs.Update.{is_holder, holders, other_holders}
 use Rattle.flash_partition.specs.Usable.{Usable}
-use Rattle.flash_partition.specs.declared.partition.OpenedLog.{OpenedLog}
+use Rattle.flash_partition.specs.declared.opened.OpenedLog.{OpenedLog}
 use Rattle.flash_partition.proofs.UsableLaws.{usable-measured, count_most}
 use Rattle.flash_listing.specs.BlockTests.{NoneMarked, is_kept, kept_blocks}
 use Rattle.flash_listing.proofs.HolderLaws.{kept_by}

@@ -14,7 +14,7 @@ use flash_journal::write_block_at;
 use flash_listing::list_kept;
 use flash_measures::NUMBERS;
 use flash_moving::{blank_rest, keep_blocks};
-use flash_partition::partition::{OpenedLog, Partition};
+use flash_partition::opened::{OpenedLog, Partition};
 
 // The contents of each number that has no mark, moved down to 1, 2, 3 and on. The answer is the next block to fill.
 fn keep_contents(image: &mut [u8], log: OpenedLog, marks: &mut [u8; NUMBERS]) -> usize

@@ -16,7 +16,7 @@ use Rattle.flash_model.proofs.SoundLaws.{allocated-used, sound-measured}
 use Rattle.flash_model.proofs.HolderLaws.{is-holder-at}
 use Rattle.flash_model.proofs.RoomLaws.{live-holders}
 use Rattle.flash_partition.specs.Usable.{Usable}
-use Rattle.flash_partition.specs.declared.partition.OpenedLog.{OpenedLog}
+use Rattle.flash_partition.specs.declared.opened.OpenedLog.{OpenedLog}
 use Rattle.flash_partition.proofs.UsableLaws.{count_most}
 use Rattle.flash_listing.specs.BlockTests.{NoneMarked, is_kept, kept_blocks}
 

@@ -15,7 +15,7 @@ use Rattle.words.specs.Lists.{is_some}
 use Rattle.flash_model.specs.Measures.{capacity}
 use Rattle.flash_model.specs.Partition.{holder}
 use Rattle.flash_model.proofs.MeasureLaws.{legal-below}
-use Rattle.flash_partition.specs.declared.partition.Partition.{Partition}
+use Rattle.flash_partition.specs.declared.opened.Partition.{Partition}
 use Rattle.flash_partition.proofs.UsableLaws.{usable-measured}
 use Rattle.flash_listing.specs.Passing.{PassAt, MarksAdded, ListGrown, mark_after}
 

@@ -15,7 +15,7 @@ use Rattle.flash_model.specs.Partition.{block_at}
 use Rattle.flash_listing.specs.BlockTests.{is_new, mark, is_kept, kept_blocks}
 use Rattle.flash_listing.specs.Passing.{PassAt, PassedTo, Passed, left_and_listed, MarksAdded}
 use Rattle.flash_listing.specs.declared.Progress.{Progress}
-use Rattle.flash_partition.specs.declared.partition.Partition.{Partition}
+use Rattle.flash_partition.specs.declared.opened.Partition.{Partition}
 use Rattle.flash_listing.proofs.LeftLaws.{added_none, added_then, grown-none, grown-then, grown-stored}
 use Rattle.flash_listing.proofs.MarkLaws.{passed-at, passed-kept, marked-at, marks-added, marked-kept, marked-below}
 use Rattle.flash_listing.proofs.HolderLaws.{keep_same}

@@ -20,7 +20,7 @@ use Rattle.flash_model.specs.UserBlock.{number, right_checksum}
 use Rattle.flash_model.specs.Partition.{block_at, copy_at, holder}
 use Rattle.flash_model.specs.Update.{is_at, is_holder}
 use Rattle.flash_model.proofs.MeasureLaws.{legal-below}
-use Rattle.flash_partition.specs.declared.partition.Partition.{Partition}
+use Rattle.flash_partition.specs.declared.opened.Partition.{Partition}
 use Rattle.flash_partition.proofs.UsableLaws.{usable-measured, count_most, holder-some}
 use Rattle.flash_listing.specs.BlockTests.{is_new, mark, is_kept}
 use Rattle.flash_listing.specs.Passing.{PassAt, MarksAdded}
@@ -74,19 +74,19 @@ module _ {marks : List ℕ} {p : Partition} {k : ℕ} (low : 1 ≤ k) (f : PassA
   -- ---- a block that is not new
 
   -- no number without a mark has the block
-  passed : ((n : ℕ) → n < end → get_or marks n 0 ≡ 0 → copy_at image n k ≡ false) → PassAt marks p (k - 1)
-  passed none-new = record {
+  pass-below : ((n : ℕ) → n < end → get_or marks n 0 ≡ 0 → copy_at image n k ≡ false) → PassAt marks p (k - 1)
+  pass-below none-new = record {
     long = f.long;
     not_past_end = omega (arith, f.not_past_end);
     unmarked = λ n h z. f.unmarked n h z ∙ held_next n (none-new n h z);
   }
 
   pub passed-wrong : right_checksum (block_at image k) ≡ false → PassAt marks p (k - 1)
-  passed-wrong wrong = passed (λ n h z. rw wrong (and-false (eqb b n)))
+  passed-wrong wrong = pass-below (λ n h z. rw wrong (and-false (eqb b n)))
 
   pub passed-at : is_new end (block_at image k) marks ≡ false → PassAt marks p (k - 1)
   unfolding is_new
-  passed-at e = passed (λ n h free. rw (ne_eqb b n (λ q. true≢false (sym (new n h free q) ∙ e))))
+  passed-at e = pass-below (λ n h free. rw (ne_eqb b n (λ q. true≢false (sym (new n h free q) ∙ e))))
     where
       new : (n : ℕ) → n < end → get_or marks n 0 ≡ 0 → b ≡ n → (ltb b end && eqb (get_or marks b 0) 0) ≡ true
       new n h free q = rw (q, lt-ltb n end h, free)

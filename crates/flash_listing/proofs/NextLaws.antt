@@ -18,7 +18,7 @@ use Rattle.flash_model.specs.Partition.{block_at, copy_at, contents, lowest_live
 use Rattle.flash_model.proofs.MeasureLaws.{legal-below}
 use Rattle.flash_model.proofs.MeaningLaws.{next_live_lem, live-none}
 use Rattle.flash_partition.specs.Usable.{Usable}
-use Rattle.flash_partition.specs.declared.partition.OpenedLog.{OpenedLog}
+use Rattle.flash_partition.specs.declared.opened.OpenedLog.{OpenedLog}
 use Rattle.flash_listing.specs.BlockTests.{lowered}
 use Rattle.flash_partition.proofs.UsableLaws.{usable-measured, holder-some}
 

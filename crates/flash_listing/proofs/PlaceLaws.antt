@@ -10,7 +10,7 @@ use native.Mathlib.Decide.{ℕ_discrete}
 use lib.ListN.{length, get_or, take, drop, set, replicate, length-set, length-append, length-drop, length-replicate, get_or-replicate, get_or-append}
 use lib.Seq.{get_or-set_same, get_or-set_other, drop-set-lt, drop_at, length-take-le}
 use Rattle.flash_model.specs.Measures.{capacity}
-use Rattle.flash_partition.specs.declared.partition.Partition.{Partition}
+use Rattle.flash_partition.specs.declared.opened.Partition.{Partition}
 use Rattle.flash_model.specs.UserBlock.{number, right_checksum}
 use Rattle.flash_model.specs.Partition.{block_at, holder}
 use Rattle.flash_listing.specs.BlockTests.{is_new}

@@ -5,7 +5,7 @@ use Rattle.words.specs.Lists.{is_some}
 use Rattle.words.specs.Search.{highest}
 use Rattle.flash_model.specs.Measures.{capacity}
 use Rattle.flash_model.specs.Partition.{copy_at, holder}
-use Rattle.flash_partition.specs.declared.partition.Partition.{Partition}
+use Rattle.flash_partition.specs.declared.opened.Partition.{Partition}
 use Rattle.flash_listing.specs.BlockTests.{kept_blocks}
 use Rattle.flash_listing.specs.declared.Progress.{Progress}
 
@@ -53,8 +53,8 @@ pub record Passed (listed : Bool) (p : Partition) (marks kept : List ℕ) (from 
 abbrev pub whole : Partition → Progress
 whole p = record { at = p.log.used; count = 0 }
 
-abbrev pub passed : ℕ → Progress
-passed count = record { at = 0; count = count }
+abbrev pub pass_ended : ℕ → Progress
+pass_ended count = record { at = 0; count = count }
 
 -- A number's mark when all blocks are passed: the one that it had, else 1 if it has contents.
 unfoldable pub mark_after : List ℕ → List ℕ → ℕ → ℕ

@@ -8,11 +8,11 @@ ghost use Rattle.flash_model.specs.Measures.{capacity};
 ghost use Rattle.flash_model.specs.UserBlock.{number};
 ghost use Rattle.flash_model.specs.Partition.{live, lowest_live};
 ghost use Rattle.flash_listing.specs.BlockTests.{is_new, mark, lowered};
-ghost use Rattle.flash_listing.specs.Passing.{PassAt, PassedTo, Passed, whole, passed, AllListed};
+ghost use Rattle.flash_listing.specs.Passing.{PassAt, PassedTo, Passed, whole, pass_ended, AllListed};
 
 use flash_measures::NUMBERS;
 use flash_partition::blocks::right_checksum;
-use flash_partition::partition::Partition;
+use flash_partition::opened::Partition;
 use words::word;
 
 // Whether the block that the part is may hold the contents of its number: that is below `end` and has no mark. No checksum is
@@ -95,7 +95,7 @@ fn mark_run<const LISTED: bool>(
 fn pass<const LISTED: bool>(p: Partition<'_>, marks: &mut [u8], kept: &mut [u16]) -> usize
     requires long { capacity p.log.m.size ≤ length marks.old }
     requires room { LISTED ≡ true → capacity p.log.m.size ≤ length kept.old }
-    ensures { Passed LISTED p.entry marks.old kept.old (whole p.entry) marks.new kept.new (passed result) }
+    ensures { Passed LISTED p.entry marks.old kept.old (whole p.entry) marks.new kept.new (pass_ended result) }
 {
     let mut reached = Progress {
         at: p.log.used,

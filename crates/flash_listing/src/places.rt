@@ -4,7 +4,7 @@ ghost use Rattle.flash_model.specs.Measures.{capacity};
 ghost use Rattle.flash_listing.specs.NumberPlaces.{entered, PlacesOf};
 
 use flash_partition::blocks::right_checksum;
-use flash_partition::partition::Partition;
+use flash_partition::opened::Partition;
 use words::word;
 
 // Enters block k, which the part is, as the place of its number, if that is below `end` and has none, and the checksum is right. No

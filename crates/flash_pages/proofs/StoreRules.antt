@@ -18,7 +18,7 @@ use Rattle.flash_model.specs.Update.{append_block, appended, other_holders, comp
 use Rattle.flash_model.proofs.SoundLaws.{allocated-used}
 use Rattle.flash_model.proofs.SaveLaws.{append-blank, blank-used}
 use Rattle.flash_partition.specs.Usable.{Usable}
-use Rattle.flash_partition.specs.declared.partition.OpenedLog.{OpenedLog}
+use Rattle.flash_partition.specs.declared.opened.OpenedLog.{OpenedLog}
 use Rattle.flash_pages.specs.Rows.{can_append}
 use native.Mathlib.Numerals.{add-one}
 

@@ -12,7 +12,7 @@ ghost use Rattle.flash_partition.specs.Usable.{Usable};
 ghost use Rattle.flash_pages.specs.Rows.{read_buffer, can_append};
 
 use flash_model::FlashError;
-use flash_partition::partition::{OpenedLog, Partition};
+use flash_partition::opened::{OpenedLog, Partition};
 
 // The page of a block.
 #[tactic(auto, unfolding(flash_model::specs::UserBlock::payload))]

@@ -26,7 +26,7 @@ use Rattle.flash_bitmap.specs.Found.{lowest_allocated}
 use Rattle.flash_measures.specs.declared.Measures.{Measures}
 use Rattle.flash_partition.specs.OpenAnswers.{header_refusal}
 use Rattle.flash_partition.specs.Usable.{Usable}
-use Rattle.flash_partition.specs.declared.partition.OpenedLog.{OpenedLog}
+use Rattle.flash_partition.specs.declared.opened.OpenedLog.{OpenedLog}
 
 module _ (image : List ℕ) (partition : ℕ) where
   -- the image is not refused, and the log is of it

@@ -13,7 +13,7 @@ use Rattle.flash_model.specs.UserBlock.{number, right_checksum}
 use Rattle.flash_model.specs.Partition.{block_at, copy_at, holder}
 use Rattle.std.specs.Prelude.{Some, None}
 use Rattle.flash_partition.specs.Usable.{Usable}
-use Rattle.flash_partition.specs.declared.partition.OpenedLog.{OpenedLog}
+use Rattle.flash_partition.specs.declared.opened.OpenedLog.{OpenedLog}
 use Rattle.flash_partition.specs.Search.{found_up_to, any_numbered}
 use Rattle.flash_partition.proofs.PartLaws.{number_is}
 use Rattle.flash_partition.proofs.UsableLaws.{holder-some}

@@ -12,7 +12,7 @@ use Rattle.flash_model.proofs.SoundLaws.{tests-of, used_most, allocated-used}
 use Rattle.flash_model.proofs.HolderLaws.{holder-used}
 use Rattle.flash_measures.specs.HasMeasures.{HasMeasures}
 use Rattle.flash_partition.specs.Usable.{Usable}
-use Rattle.flash_partition.specs.declared.partition.OpenedLog.{OpenedLog}
+use Rattle.flash_partition.specs.declared.opened.OpenedLog.{OpenedLog}
 
 module _ {image : List ℕ} {log : OpenedLog} (u : Usable image log) where
   pub usable-legal : legal_size log.m.size ≡ true

@@ -2,7 +2,7 @@
 -- Assumes nothing.
 use Rattle.std.specs.Prelude.{ℕ, ◌≡◌, List, length}
 use Rattle.flash_model.specs.Partition.{Sound, used}
-use Rattle.flash_partition.specs.declared.partition.OpenedLog.{OpenedLog}
+use Rattle.flash_partition.specs.declared.opened.OpenedLog.{OpenedLog}
 
 -- The image is a sound partition, with these measures, and `used` of its user blocks are allocated.
 pub record Usable (image : List ℕ) (log : OpenedLog) : Type 0 where

@@ -5,7 +5,7 @@ ghost use Rattle.flash_model.specs.Measures.{capacity, legal_number};
 ghost use Rattle.flash_model.specs.Partition.{block_at, holder};
 ghost use Rattle.flash_partition.specs.Search.{found_up_to, any_numbered, NextNumbered};
 
-use crate::partition::Partition;
+use crate::opened::Partition;
 use flash_measures::BLOCK_BYTES;
 use words::word;
 

@@ -4,7 +4,7 @@ ghost use Rattle.flash_model.specs.Errors.{result_code};
 ghost use Rattle.flash_model.specs.Partition.{refusal};
 ghost use Rattle.flash_partition.specs.OpenAnswers.{header_refusal};
 
-use crate::partition::{OpenedLog, Partition};
+use crate::opened::{OpenedLog, Partition};
 use flash_measures::{Image, Measures};
 use flash_model::FlashError;
 

@@ -14,7 +14,7 @@ use Rattle.flash_model.specs.Calls.{claim_rows, code_of, after_page, calls_made}
 use Rattle.flash_model.specs.Calls.{PageCall.save, CompoundCall.claim, Call.on_pages}
 use Rattle.flash_model.proofs.SlotLaws.{open-slot}
 use Rattle.flash_model.proofs.ClaimLaws.{free-most, claim-rows, first_save, second_save, FirstDone, first-saved}
-use Rattle.flash_partition.specs.declared.partition.OpenedLog.{OpenedLog}
+use Rattle.flash_partition.specs.declared.opened.OpenedLog.{OpenedLog}
 use Rattle.slots.specs.SlotUsable.{SlotUsable}
 use Rattle.slots.specs.SlotAnswers.{searched_of, claimed_image}
 use Rattle.slots.specs.declared.searches.Searched.TheVariants.{Free}

@@ -15,7 +15,7 @@ use Rattle.words.proofs.SearchLaws.{lowest-is, lowest-nothing}
 use Rattle.words.proofs.LoopLaws.{lowest-here, lowest-next, lowest-end}
 use Rattle.flash_model.specs.Slots.{slot_count, slot_header, right_header, product_of, is_right, valid_slot, has_product, product_slot, free_slot, lowest_valid, or_else}
 use Rattle.flash_model.proofs.ClaimLaws.{slot-count}
-use Rattle.slots.specs.Headers.{product_in, slot_product}
+use Rattle.slots.specs.SlotHeaders.{product_in, slot_product}
 use Rattle.slots.specs.SlotAnswers.{searched_of}
 use Rattle.slots.specs.declared.searches.Searched.TheVariants.{Has}
 

@@ -1,3 +1,3 @@
 pub mod SlotUsable
-pub mod Headers
+pub mod SlotHeaders
 pub mod SlotAnswers

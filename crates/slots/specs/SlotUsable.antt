@@ -4,7 +4,7 @@ use Rattle.std.specs.Prelude.{ℕ, ◌≤◌, ◌<◌, ◌≡◌, List, length, 
 use Rattle.flash_model.specs.Partition.{refusal, holder}
 use Rattle.flash_measures.specs.HasMeasures.{HasMeasures}
 use Rattle.flash_partition.specs.Usable.{Usable}
-use Rattle.flash_partition.specs.declared.partition.OpenedLog.{OpenedLog}
+use Rattle.flash_partition.specs.declared.opened.OpenedLog.{OpenedLog}
 use Rattle.flash_listing.specs.NumberPlaces.{place_of}
 
 -- The image is a sound partition 3 of 32,768 bytes, and the log is of it.

@@ -14,7 +14,7 @@ use crate::numbers::{SLOTS, slot_number};
 use crate::opening::SlotPartition;
 use flash_model::FlashError;
 use flash_pages::{contents, read_page, save_page, whole_page};
-use flash_partition::partition::{OpenedLog, Partition};
+use flash_partition::opened::{OpenedLog, Partition};
 
 // Whether the slot is valid.
 #[tactic(auto, using(crate::proofs::HeaderLaws::slot_legal), unfolding(flash_model::specs::Slots::valid_slot, flash_model::specs::Slots::slot_header))]

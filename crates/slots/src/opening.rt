@@ -5,8 +5,8 @@ ghost use Rattle.flash_model.specs.Slots.{slot_refusal};
 ghost use Rattle.slots.specs.SlotUsable.{SlotUsable};
 
 use flash_model::FlashError;
+use flash_partition::opened::Partition;
 use flash_partition::opening::open;
-use flash_partition::partition::Partition;
 
 const SLOT_BYTES: usize = 32768;
 

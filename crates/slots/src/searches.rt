@@ -6,7 +6,7 @@ ghost use Rattle.flash_model.specs.Calls.{find_rows};
 ghost use Rattle.flash_model.specs.Slots.{product_slot, free_slot, lowest_valid};
 ghost use Rattle.slots.specs.SlotUsable.{SlotPlaces};
 ghost use Rattle.slots.specs.SlotAnswers.{searched_of};
-ghost use Rattle.slots.specs.Headers.{slot_product};
+ghost use Rattle.slots.specs.SlotHeaders.{slot_product};
 
 use crate::headers::{product_of, right_header};
 use crate::numbers::{SLOTS, slot_number};
@@ -14,7 +14,7 @@ use crate::opening::SlotPartition;
 use flash_listing::places::find_places;
 use flash_model::FlashError;
 use flash_pages::payload;
-use flash_partition::partition::Partition;
+use flash_partition::opened::Partition;
 
 // How many logical numbers a partition with slots has.
 const SLOT_PARTITION_NUMBERS: usize = 510;

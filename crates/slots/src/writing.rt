@@ -13,8 +13,8 @@ use crate::opening::{SLOT_PARTITION, SlotPartition};
 use crate::searches::{Searched, search};
 use flash_model::FlashError;
 use flash_pages::{contents, save_page};
+use flash_partition::opened::{OpenedLog, Partition};
 use flash_partition::opening::open;
-use flash_partition::partition::{OpenedLog, Partition};
 
 // Saves a page as the contents of a number, with what stands there as expected. The image is opened anew, since the save before
 // may have changed which blocks are used.

@@ -6,7 +6,7 @@ use lib.ListN.{length, set}
 use Rattle.flash_model.specs.Measures.{capacity, top_number}
 use Rattle.flash_model.proofs.MeasureLaws.{capacity-most}
 use Rattle.flash_partition.specs.Usable.{Usable}
-use Rattle.flash_partition.specs.declared.partition.OpenedLog.{OpenedLog}
+use Rattle.flash_partition.specs.declared.opened.OpenedLog.{OpenedLog}
 use Rattle.flash_partition.proofs.UsableLaws.{usable-legal, usable-has, usable-measured}
 use Rattle.flash_listing.specs.BlockTests.{kept_blocks}
 use Rattle.flash_listing.proofs.NoMarksLaws.{no_marks, none_marked}

@@ -9,7 +9,7 @@ use Rattle.flash_model.specs.Partition.{block_at, copy_at}
 use Rattle.flash_partition.specs.Search.{found_up_to, NextNumbered}
 use Rattle.flash_partition.proofs.SearchLaws.{from-used, found_here, passed}
 use Rattle.flash_partition.proofs.UsableLaws.{count_most}
-use Rattle.flash_partition.proofs.partition.Partition.find.Goals as goal
+use Rattle.flash_partition.proofs.opened.Partition.find.Goals as goal
 
 -- the search comes down to block k, whose part tells whether its checksum is right
 module _ {image part : List ℕ} {n top k : ℕ} {right : Bool} (s : NextNumbered image n top k) (p : part ≡ block_at image k) (e : right ≡ right_checksum part) where

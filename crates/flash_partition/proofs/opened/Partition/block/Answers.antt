@@ -3,7 +3,7 @@ use native.Mathlib.Omega.{arith}
 use Rattle.flash_measures.proofs.WithinLaws.{is_within}
 use Rattle.flash_partition.proofs.PartLaws.{block-part}
 use Rattle.flash_partition.proofs.UsableLaws.{usable-has}
-use Rattle.flash_partition.proofs.partition.Partition.block.Goals as goal
+use Rattle.flash_partition.proofs.opened.Partition.block.Goals as goal
 
 pub start-at-requires : goal.start-at-requires
 start-at-requires c = omega (arith, (is_within c.args.k (usable-has c.args.self.usable) c.requires).before_bitmap_lem)

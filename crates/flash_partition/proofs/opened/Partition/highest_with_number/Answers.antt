@@ -3,7 +3,7 @@ use native.Mathlib.Omega.{arith}
 use borrow.Author.Tests.{eq-eqb, ne_eqb}
 use Rattle.flash_partition.proofs.SearchLaws.{passed, none_left, has-number-test, other_number}
 use Rattle.flash_partition.proofs.UsableLaws.{usable-measured}
-use Rattle.flash_partition.proofs.partition.Partition.highest_with_number.Goals as goal
+use Rattle.flash_partition.proofs.opened.Partition.highest_with_number.Goals as goal
 
 pub overflow_step-k : goal.overflow_step-k
 overflow_step-k c = omega (arith, c.pass_eights-k.ensures.0, c.requires, (usable-measured c.args.self.usable).two_bytes)

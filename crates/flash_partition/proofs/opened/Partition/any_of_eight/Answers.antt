@@ -3,7 +3,7 @@ use mathlib.Core.Bool.{◌||◌}
 use native.Mathlib.Numerals.{add-one}
 use Rattle.flash_partition.specs.Search.{any_numbered}
 use Rattle.flash_partition.proofs.SearchLaws.{has-number-test}
-use Rattle.flash_partition.proofs.partition.Partition.any_of_eight.Goals as goal
+use Rattle.flash_partition.proofs.opened.Partition.any_of_eight.Goals as goal
 
 pub loop-j-init : goal.loop-j-init
 unfolding any_numbered

@@ -1,7 +1,7 @@
 use mathlib.Core.Path.{sym, ◌∙◌}
 use native.Mathlib.Omega.{arith}
 use Rattle.flash_partition.proofs.SearchLaws.{none-numbered}
-use Rattle.flash_partition.proofs.partition.Partition.pass_eights.Goals as goal
+use Rattle.flash_partition.proofs.opened.Partition.pass_eights.Goals as goal
 
 pub loop-k-preserved : goal.loop-k-preserved
 loop-k-preserved c = (
