@@ -1,4 +1,5 @@
-// The structs that C receives by value, and how they are made of the calls' answers. A C struct holds no enum.
+// The structs that C receives by value, and how they are made of the calls' answers. A C struct holds no enum. A usize becomes C's u64
+// by `as`: `From` has nothing between the two.
 ghost use Rattle.std.specs.Prelude.{ℕ, ◌≡◌, List, []};
 ghost use Rattle.std.specs.declared.result.Result.TheVariants.{Ok};
 ghost use Rattle.verdicts.specs.Rows.{place_number, error_verdict, result_verdict};
@@ -110,6 +111,7 @@ pub fn report_of(answer: Result<Counts, FlashError>) -> ReportAnswer
     }
 }
 
+// This and `slot_of` are two functions since C has a struct for each.
 #[tactic(auto, unfolding(crate::specs::Structs::next_live_of))]
 pub fn next_live_of(answer: Result<usize, FlashError>) -> NextLiveAnswer
     ensures { result ≡ next_live_of (number_answer answer []) }

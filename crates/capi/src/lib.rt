@@ -4,6 +4,7 @@
 //
 // Nothing is asked of what a caller lends but that each pointer is good for its length and that a buffer which a call writes
 // overlaps no other, which is C's side of a slice. Where a call is refused, every value but the code and the place is 0.
+// C's u64 becomes usize by `as`: `From` has nothing between the two.
 pub mod answers;
 
 ghost use Rattle.std.specs.Prelude.{◌≡◌, [], ◌∷◌};

@@ -141,6 +141,7 @@ fn data_file<'a>(
     if size <= numbers.offset {
         return Err(Rule::DirectoryEntry.at(Place::Whole));
     }
+    // By `as`, since `From` never narrows: both numbers are at most 200.
     Ok(DataFile {
         name,
         time,

@@ -5,6 +5,7 @@ ghost use Rattle.report_text.specs.Text.{decimal, line};
 use crate::Text;
 
 // A number's decimal digits. They are put by hand since what std writes into fixed memory may be refused or cut, by its contracts.
+// The digit is below 10: `as`, since `From` never narrows.
 #[tactic(auto, using(crate::proofs::DecimalLaws::digit_by_digit))]
 fn put_decimal(text: &mut Text, n: usize)
     requires { length text.old + length (decimal n) ≤ 12288 }

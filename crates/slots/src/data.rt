@@ -16,7 +16,8 @@ use flash_model::FlashError;
 use flash_pages::{contents, read_page, save_page, whole_page};
 use flash_partition::opened::{OpenedLog, Partition};
 
-// Whether the slot is valid.
+// Whether the slot is valid. Its two lines are like those of `Places::product`: one function for both, with a closure for where the
+// contents come from, would have a contract longer than they are.
 #[tactic(auto, using(crate::proofs::HeaderLaws::slot_legal), unfolding(flash_model::specs::Slots::valid_slot, flash_model::specs::Slots::slot_header))]
 fn valid_slot(slots: SlotPartition<'_>, slot: usize) -> bool
     requires { slot ≤ 99 }
@@ -63,7 +64,8 @@ pub(crate) fn read_data(
     read_page(slots.partition, number, page)
 }
 
-// Saves a page as a data block: refusals 8, 42, 43 and 9.
+// Saves a page as a data block: refusals 8, 42, 43 and 9. `SlotUsable` is asked here, since a struct that holds the image as `&mut` isn't
+// told what it leaves (docs/PROOF_NOTES.md, Today's forms).
 #[tactic(auto, unfolding(flash_model::specs::Calls::slot_save_rows, flash_model::specs::Calls::save_rows))]
 pub(crate) fn save_data(
     image: &mut [u8],

@@ -38,7 +38,7 @@ fn save_over(image: &mut [u8], number: usize, page: &[u8; 60])
 }
 
 // The slot with this header's product number, or else the lowest that is not valid, where the two blocks are saved in order: refusals
-// 8, 41 and 40 where there is none.
+// 8, 41 and 40 where there is none. `SlotUsable` is asked for the reason given at `save_data`.
 #[tactic(auto, unfolding(flash_model::specs::Calls::claim_rows, flash_model::specs::Slots::claimed_slot, flash_model::specs::Calls::calls_made, flash_model::specs::Slots::written_slot, crate::specs::SlotAnswers::claimed_image))]
 pub(crate) fn claim_slot(
     image: &mut [u8],

@@ -25,6 +25,7 @@ fn print_blocks(rt: &impl Print, family: &str, bytes: &[u8; 512]) -> io::Result<
     Ok(())
 }
 
+// The remainders here narrow by `as`, since `From` never does.
 fn rising_bytes() -> [u8; 512] {
     array::from_fn(|i| (i % 256) as u8)
 }

@@ -15,7 +15,8 @@ pub fn format(image: &mut [u8], partition: u8, version: u8) {
     }
 }
 
-// With x = number + 1021 * round, byte i is x / (i + 1) + 5 * i, modulo 256.
+// With x = number + 1021 * round, byte i is x / (i + 1) + 5 * i, modulo 256, by `as`, since `From` never
+// narrows.
 pub fn page_of(number: usize, round: usize) -> [u8; 60] {
     let x = number % 65536 + 1021 * (round % 65536);
     array::from_fn(|i| ((x / (i + 1) % 256 + 5 * i) % 256) as u8)
