@@ -1,11 +1,12 @@
 -- The slots of the listed names, and what a search back from one tells. Assumes nothing.
-use Prim.Native.Nat.{ℕ, suc, ◌+◌, ◌≤◌, ◌<◌}
+use Prim.Native.Nat.{ℕ, zero, suc, ◌+◌, ◌-◌, ◌≤◌, ◌<◌}
 use mathlib.Core.Path.{◌≡◌, refl, sym, ap, ◌∙◌}
 use mathlib.Core.Bool.{Bool, true, false}
 use mathlib.Core.List.{List}
-use Rattle.std.specs.Prelude.{Option, None, Some, is_some}
+use Rattle.std.specs.Prelude.{Option, None, Some, SomeIff, is_some}
 use native.Mathlib.Omega.{arith}
 use native.Mathlib.Decide.{ℕ_discrete}
+use native.Mathlib.Numerals.{add-one}
 use lib.Dec.{ltb}
 use lib.ListN.{get_or, set, replicate, length-replicate, get_or-replicate, length-set}
 use lib.Seq.{get_or-set_same, get_or-set_other}
@@ -19,7 +20,7 @@ use Rattle.card_model.specs.Entries.{name_of, is_used, entry_at, is_named, name_
 use Rattle.card_directory.specs.Listed.{reached, Listed}
 use Rattle.card_directory.proofs.DirectoryLaws.{unused-name, used-name}
 use Rattle.card_directory.proofs.ListedLaws.{listed-used, listed-index, listed-rises}
-use Rattle.card_names.specs.Slots.{slot_of, name_at, slot_at, up_to, LastOf, Chained, Slots}
+use Rattle.card_names.specs.Slots.{slot_of, name_at, slot_at, up_to, before, LastOf, Chained, Slots}
 
 -- ---- names
 
@@ -38,6 +39,14 @@ is_named_lem name e u n = rw u (eq-same (name_of e) name n)
 pub unused-free : (directory : List (List ℕ)) (i : ℕ) → is_used (entry_at directory i) ≡ false → name_taken directory i ≡ false
 unused-free directory i u = unused-name directory i (entry_at directory i) refl u
 
+-- ---- a byte of the tables, and what `checked_sub(1)` reads from it
+
+pub before-read : (b : ℕ) (o : Option ℕ) → SomeIff o (1 ≤ b) (b - 1) → before b ≡ o
+before-read zero None h = refl
+before-read zero (Some k) h = absurd (omega (arith, h.0))
+before-read (suc b) None h = absurd (h (omega arith))
+before-read (suc b) (Some k) h = let e : k ≡ b = omega (arith, h.1) in cc
+
 module _ (directory : List (List ℕ)) (used : List ℕ) where
   abbrev slot : ℕ → ℕ
   slot = slot_at directory used
@@ -47,44 +56,44 @@ module _ (directory : List (List ℕ)) (used : List ℕ) where
 
   -- ---- the slots
 
-  pub slots-start : Slots directory used (replicate 2048 None) (replicate 208 None) 0
+  pub slots-start : Slots directory used (replicate 2048 0) (replicate 208 0) 0
   slots-start = record {
-    slots_many = length-replicate {A = Option ℕ} 2048 None;
-    next_many = length-replicate {A = Option ℕ} 208 None;
+    slots_many = length-replicate {A = ℕ} 2048 0;
+    next_many = length-replicate {A = ℕ} 208 0;
     chains = record { back = λ j h. absurd (omega arith) };
-    newest = λ s h. rw (get_or-replicate {A = Option ℕ} 2048 s None None h)
+    newest = λ s h. rw (get_or-replicate {A = ℕ} 2048 s 0 0 h)
         (record { within = omega arith; own = λ j q. absurd (none-some q); others = λ j a b. absurd (omega arith) });
   }
     where
       none-some : {j : ℕ} → ◌≡◌ {A = Option ℕ} None (Some j) → ⊥
       none-some q = cc
 
-  module _ (next : List (Option ℕ)) where
+  module _ (next : List ℕ) where
     -- name j is entered
-    pub slots_next : {slots : List (Option ℕ)} {j s : ℕ} {k : Option ℕ} → Slots directory used slots next j → j < 208 → s ≡ slot j → s < 2048 → k ≡ get_or slots s None
-        → Slots directory used (set slots s (Some j)) (set next j k) (j + 1)
+    pub slots_next : {slots : List ℕ} {j s k : ℕ} → Slots directory used slots next j → j < 208 → s ≡ slot j → s < 2048 → k ≡ get_or slots s 0
+        → Slots directory used (set slots s (j + 1)) (set next j k) (j + 1)
     slots_next {slots} {j} {s} {k} t b e h q = record {
-      slots_many = length-set slots s (Some j) ∙ t.slots_many;
+      slots_many = length-set slots s (j + 1) ∙ t.slots_many;
       next_many = length-set next j k ∙ t.next_many;
       chains = record { back = λ x c. backs x c (ℕ_discrete x j) };
       newest = λ x c. lasts x c (ℕ_discrete x s);
     }
       where
-        backs : (x : ℕ) → x < j + 1 → Dec (x ≡ j) → LastOf slot (slot x) x (get_or (set next j k) x None)
-        backs x c (yes z) = rw (z, get_or-set_same next j k None (omega (arith, t.next_many)), q, ← e) (t.newest s h)
-        backs x c (no z) = rw (get_or-set_other next j x k None z) (t.chains.back x (omega (arith, z)))
+        backs : (x : ℕ) → x < j + 1 → Dec (x ≡ j) → LastOf slot (slot x) x (before (get_or (set next j k) x 0))
+        backs x c (yes z) = rw (z, get_or-set_same next j k 0 (omega (arith, t.next_many)), q, ← e) (t.newest s h)
+        backs x c (no z) = rw (get_or-set_other next j x k 0 z) (t.chains.back x (omega (arith, z)))
 
-        lasts : (x : ℕ) → x < 2048 → Dec (x ≡ s) → LastOf slot x (j + 1) (get_or (set slots s (Some j)) x None)
-        lasts x c (yes z) = rw (z, get_or-set_same slots s (Some j) None (omega (arith, t.slots_many))) (record {
+        lasts : (x : ℕ) → x < 2048 → Dec (x ≡ s) → LastOf slot x (j + 1) (before (get_or (set slots s (j + 1)) x 0))
+        lasts x c (yes z) = rw (z, get_or-set_same slots s (j + 1) 0 (omega (arith, t.slots_many)), add-one) (record {
           within = omega arith;
           own = λ y p. let f : y ≡ j = cc in ap slot f ∙ sym e;
           others = λ y p r. absurd (omega arith);
         })
         lasts x c (no z) =
             let o = t.newest x c in
-            rw (get_or-set_other slots s x (Some j) None z) (record { within = omega (arith, o.within); own = o.own; others = other o })
+            rw (get_or-set_other slots s x (j + 1) 0 z) (record { within = omega (arith, o.within); own = o.own; others = other o })
           where
-            other : LastOf slot x j (get_or slots x None) → (y : ℕ) → up_to (get_or slots x None) ≤ y → y < j + 1 → slot y ≡ x → ⊥
+            other : LastOf slot x j (before (get_or slots x 0)) → (y : ℕ) → up_to (before (get_or slots x 0)) ≤ y → y < j + 1 → slot y ≡ x → ⊥
             other o y p r f = go (ℕ_discrete y j)
               where
                 go : Dec (y ≡ j) → ⊥
@@ -106,13 +115,13 @@ module _ (directory : List (List ℕ)) (used : List ℕ) where
       pub sought-here : name k ≡ x → LastOf name x n (Some k)
       sought-here e = record { within = s.within; own = λ j q. let f : j ≡ k = cc in ap name f ∙ e; others = s.others }
 
-      pub sought-back : {next : List (Option ℕ)} → Chained directory used next n → (name k ≡ x → ⊥) → Sought (get_or next k None)
-      sought-back {next} c d =
+      pub sought-back : {next : List ℕ} {o : Option ℕ} → Chained directory used next n → (name k ≡ x → ⊥) → SomeIff o (1 ≤ get_or next k 0) (get_or next k 0 - 1) → Sought o
+      sought-back {next} {o} c d r =
           let w = s.within in
-          let b = c.back k (omega arith) in
+          let b = rw (before-read _ _ r) at (c.back k (omega arith)) in
           record { within = omega (arith, b.within); own = λ j q. b.own j q ∙ s.own k refl; others = λ j p r. other b j p r (ltb k j) refl (ℕ_discrete j k) }
         where
-          other : LastOf slot (slot k) k (get_or next k None) → (j : ℕ) → up_to (get_or next k None) ≤ j → j < n → (t : Bool) → ltb k j ≡ t → Dec (j ≡ k) → name j ≡ x → ⊥
+          other : LastOf slot (slot k) k o → (j : ℕ) → up_to o ≤ j → j < n → (t : Bool) → ltb k j ≡ t → Dec (j ≡ k) → name j ≡ x → ⊥
           other b j p r t q (yes z) e = d (ap name (sym z) ∙ e)
           other b j p r true q (no z) e = s.others j (omega (arith, ltb-true k j q)) r e
           other b j p r false q (no z) e = b.others j p (omega (arith, z, ltb-false k j q)) (ap slot_of e ∙ sym (s.own k refl))

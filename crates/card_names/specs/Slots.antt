@@ -1,6 +1,6 @@
 -- The slots of the listed names: a shortcut of the search for an earlier name, and no part of what it means.
 -- Assumes nothing.
-use Rattle.std.specs.Prelude.{ℕ, suc, ◌*◌, ◌/◌, ◌%◌, ◌≤◌, ◌<◌, ◌≡◌, List, Option, None, Some, bit_xor, length, get_or, take, drop}
+use Rattle.std.specs.Prelude.{ℕ, zero, suc, ◌*◌, ◌/◌, ◌%◌, ◌≤◌, ◌<◌, ◌≡◌, List, Option, None, Some, bit_xor, length, get_or, take, drop}
 use Rattle.std.specs.Int.{w32, from_le_bytes, rotate_left}
 use Rattle.card_model.specs.Entries.{name_of, entry_at}
 
@@ -28,6 +28,11 @@ abbrev pub up_to : Option ℕ → ℕ
 up_to None = 0
 up_to (Some k) = suc k
 
+-- The number that a byte of the tables stands for: the one before it, and none at 0.
+abbrev pub before : ℕ → Option ℕ
+before zero = None
+before (suc k) = Some k
+
 -- The last of the first n numbers for which f gives x, if there is one.
 pub record LastOf {A : Type 0} (f : ℕ → A) (x : A) (n : ℕ) (last : Option ℕ) : Type 0 where
   pub within : up_to last ≤ n
@@ -35,12 +40,12 @@ pub record LastOf {A : Type 0} (f : ℕ → A) (x : A) (n : ℕ) (last : Option 
   pub others : (j : ℕ) → up_to last ≤ j → j < n → f j ≡ x → ⊥
 
 -- Each of the first n names leads to the last one before it of the same slot.
-pub record Chained (directory : List (List ℕ)) (used : List ℕ) (next : List (Option ℕ)) (n : ℕ) : Type 0 where
-  pub back : (j : ℕ) → j < n → LastOf (slot_at directory used) (slot_at directory used j) j (get_or next j None)
+pub record Chained (directory : List (List ℕ)) (used next : List ℕ) (n : ℕ) : Type 0 where
+  pub back : (j : ℕ) → j < n → LastOf (slot_at directory used) (slot_at directory used j) j (before (get_or next j 0))
 
 -- And each slot to its last one.
-pub record Slots (directory : List (List ℕ)) (used : List ℕ) (slots next : List (Option ℕ)) (n : ℕ) : Type 0 where
+pub record Slots (directory : List (List ℕ)) (used slots next : List ℕ) (n : ℕ) : Type 0 where
   pub slots_many : length slots ≡ 2048
   pub next_many : length next ≡ 208
   pub chains : Chained directory used next n
-  pub newest : (s : ℕ) → s < 2048 → LastOf (slot_at directory used) s n (get_or slots s None)
+  pub newest : (s : ℕ) → s < 2048 → LastOf (slot_at directory used) s n (before (get_or slots s 0))

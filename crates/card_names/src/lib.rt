@@ -1,7 +1,7 @@
 #![tactic(auto)]
 
 // Refusal 29, by hash: each slot leads to the last listed entry whose name falls into it, and each entry to the one before it in its
-// slot.
+// slot. The tables hold bytes, which are half as long as Options: 0 is none and k + 1 is number k, as `checked_sub(1)` reads them.
 ghost use Rattle.std.specs.Prelude.{◌≡◌, ℕ, ◌+◌, ◌≤◌, ◌<◌, length, Some};
 ghost use Rattle.verdicts.specs.Rows.{result_verdict};
 ghost use Rattle.card_model.specs.Layout.{directory_of};
@@ -41,7 +41,7 @@ fn slot_of(name: &[u8; 12]) -> usize
 // The last listed entry of this name, from the last one of its slot on back.
 fn find_back(
     directory: Directory<'_>,
-    next: &[Option<u8>; 208],
+    next: &[u8; 208],
     start: Option<u8>,
     name: &[u8; 12],
 ) -> Option<usize>
@@ -56,7 +56,7 @@ fn find_back(
         if name_of(entry_at(directory.card, usize::from(directory.used[k]))) == name {
             return Some(k);
         }
-        at = next[k];
+        at = next[k].checked_sub(1);
     }
     None
 }
@@ -65,18 +65,18 @@ fn find_back(
 pub fn name_row(directory: Directory<'_>) -> Result<(), CardError>
     ensures { result_verdict result ≡ name_row (directory_of directory.entry.card.now) }
 {
-    let mut slots = [None; 2048];
-    let mut next = [None; 208];
+    let mut slots = [0u8; 2048];
+    let mut next = [0u8; 208];
     for (j, &i) in directory.used.iter().enumerate() {
         let i = usize::from(i);
         let name = name_of(entry_at(directory.card, i));
         let slot = slot_of(name);
         let earlier = slots[slot];
-        if find_back(directory, &next, earlier, name).is_some() {
+        if find_back(directory, &next, earlier.checked_sub(1), name).is_some() {
             return Err(Rule::SameName.at(Place::Entry(i)));
         }
         next[j] = earlier;
-        slots[slot] = Some(j as u8);
+        slots[slot] = (j + 1) as u8;
     }
     Ok(())
 }
