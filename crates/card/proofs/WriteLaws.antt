@@ -88,10 +88,10 @@ module _ (card : List ℕ) (flag : ℕ) (name time content : List ℕ) (offset :
           in_user = rw taken-are (λ j h. all-at (λ b. b < 200) (taken_blocks card f) j (taken-holds card f offset passed).low h 0)
 
           -- i is the lowest unused entry of any directory that has the list
-          pub lowest : {used slice : List ℕ} {i : ℕ} → Listed (directory_of s) 208 used (length used) → slice ≡ used
-              → ((directory : List (List ℕ)) → Listed directory 208 slice (length slice) → is_some (lowest_unused directory) ≡ true → lowest_unused directory ≡ Some i)
+          pub lowest : {used : List ℕ} {i : ℕ} → Listed (directory_of s) 208 used (length used)
+              → ((directory : List (List ℕ)) → Listed directory 208 used (length used) → is_some (lowest_unused directory) ≡ true → lowest_unused directory ≡ Some i)
               → lowest_unused (directory_of card) ≡ Some i
-          lowest u e h = h (directory_of card) (rw (e, ← q) u) (never_full card passed.is_sound)
+          lowest u h = h (directory_of card) (rw (← q) u) (never_full card passed.is_sound)
 
           pub wrote : {i : ℕ} → lowest_unused (directory_of card) ≡ Some i → {after : List ℕ} → after ≡ with_file card 0x33 f offset (take size free) i → after ≡ written card f offset
           unfolding written

@@ -15,7 +15,7 @@ ghost use Rattle.card_updates.specs.Write.{given_file, data_rows, taken_row, wit
 
 use card_chains::count_orphans;
 use card_chains::walking::block_after;
-use card_check::{Opened, open};
+use card_check::{Lists, Opened, open};
 use card_directory::entry;
 use card_directory::search::first_used;
 use card_files::blocks::{free_chain, write_blocks};
@@ -29,8 +29,9 @@ use verdicts::{CardError, Place, Rule};
 pub fn check(card: &[u8]) -> Result<usize, CardError>
     ensures { check_answer result ≡ check_of card.now }
 {
-    let sound = open(card)?;
-    Ok(count_orphans(sound.card, &sound.marks))
+    let mut lists = Lists::new();
+    let sound = open(card, &mut lists)?;
+    Ok(count_orphans(sound.card, sound.marks))
 }
 
 // Entry i, from its own bytes.
@@ -56,8 +57,9 @@ fn listing_of(i: usize, found: &[u8; 32]) -> ListedEntry
 pub fn list(card: &[u8], from: usize) -> Result<ListedEntry, CardError>
     ensures { list_answer result ≡ list_of card.now from }
 {
-    let opened = open(card)?;
-    let i = first_used(opened.used.as_slice(), from).ok_or(Rule::NoFile.at(Place::Whole))?;
+    let mut lists = Lists::new();
+    let opened = open(card, &mut lists)?;
+    let i = first_used(opened.used, from).ok_or(Rule::NoFile.at(Place::Whole))?;
     Ok(listing_of(i, entry::entry_at(opened.card, i)))
 }
 
@@ -88,7 +90,8 @@ pub fn read(card: &[u8], name: &[u8], index: usize, block: &mut [u8]) -> Result<
     ensures value { result_verdict result ≡ read_verdict card.now name.now index block.old }
     ensures block_after { block.new ≡ read_buffer card.now name.now index block.old }
 {
-    let opened = open(card)?;
+    let mut lists = Lists::new();
+    let opened = open(card, &mut lists)?;
     if name.len() != 12 || block.len() != 512 {
         return Err(Rule::Lengths.at(Place::Whole));
     }
@@ -194,7 +197,8 @@ pub fn write(
     ensures value { result_verdict result ≡ write_verdict card.old (given_file numbers.flag name.now time.now content.now) numbers.offset }
     ensures card_after { card.new ≡ written card.old (given_file numbers.flag name.now time.now content.now) numbers.offset }
 {
-    let opened = open(card)?;
+    let mut lists = Lists::new();
+    let opened = open(card, &mut lists)?;
     let file = data_file(name, time, numbers, content)?;
     taken_row(&opened, name)?;
     let size = usize::from(file.size);
@@ -203,7 +207,7 @@ pub fn write(
     if blocks.len() < size {
         return Err(Rule::NoRoom.at(Place::Whole));
     }
-    let i = lowest_unused(opened.used.as_slice());
+    let i = lowest_unused(opened.used);
     let card = card.as_mut_array().unwrap();
     put_file(card, i, &blocks[..size], file);
     Ok(())
@@ -228,7 +232,8 @@ pub fn delete(card: &mut [u8], name: &[u8]) -> Result<(), CardError>
     ensures value { result_verdict result ≡ delete_verdict card.old name.now }
     ensures card_after { card.new ≡ deleted card.old name.now }
 {
-    let opened = open(card)?;
+    let mut lists = Lists::new();
+    let opened = open(card, &mut lists)?;
     if name.len() != 12 {
         return Err(Rule::Lengths.at(Place::Whole));
     }

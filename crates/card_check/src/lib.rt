@@ -17,30 +17,48 @@ use card_names::name_row;
 use card_table::table_verdict;
 use verdicts::{CardError, Place, Rule};
 
-// A card that no row refuses, with its used entries listed and the blocks of its files marked.
+// Memory that a caller lends for what an opening finds: it is too long to be handed out by value.
 #[derive(Drop)]
+pub struct Lists {
+    used: UsedEntries,
+    marks: [u8; 200],
+}
+
+impl Lists {
+    pub fn new() -> Lists {
+        Lists {
+            used: UsedEntries::new(),
+            marks: [0; 200],
+        }
+    }
+}
+
+// A card that no row refuses, with its used entries listed and the blocks of its files marked.
+#[derive(Clone, Copy)]
 pub struct Opened<'a> {
     pub card: &'a [u8; LENGTH],
-    pub used: UsedEntries,
-    pub marks: [u8; 200],
-    ghost is_open: { OpenCard card.now used marks },
+    pub used: &'a [u8],
+    pub marks: &'a [u8; 200],
+    ghost is_open: { OpenCard card.now used.now marks.now },
 }
 
 // Refusals 21 to 30, of a card of the right length.
 #[tactic(auto, using(crate::proofs::RowLaws::rows), unfolding(card_chains::specs::Marks::no_marks))]
-fn open_right_length(card: &[u8; LENGTH]) -> Result<Opened<'_>, CardError>
+fn open_right_length<'a>(
+    card: &'a [u8; LENGTH],
+    lists: &'a mut Lists,
+) -> Result<Opened<'a>, CardError>
     ensures verdict { result_verdict result ≡ verdict_of card.now }
     ensures opened { IfOk result (λ o. o.card.now ≡ card.now) }
 {
     table_verdict(card)?;
-    let used = list_used(card);
-    let directory = Directory {
-        card,
-        used: used.as_slice(),
-    };
+    lists.used = list_used(card);
+    let used = lists.used.as_slice();
+    let directory = Directory { card, used };
     entry_row(directory)?;
-    let mut marks = [0u8; 200];
-    walk_files(directory, &mut marks)?;
+    let marks = &mut lists.marks;
+    marks.fill(0);
+    walk_files(directory, marks)?;
     name_row(directory)?;
     game_row(directory)?;
     Ok(Opened { card, used, marks })
@@ -48,12 +66,12 @@ fn open_right_length(card: &[u8; LENGTH]) -> Result<Opened<'_>, CardError>
 
 // Refusals 20 to 30. The length is tested before all that asks for it.
 #[tactic(auto, using(crate::proofs::RowLaws::wrong_length))]
-pub fn open(card: &[u8]) -> Result<Opened<'_>, CardError>
+pub fn open<'a>(card: &'a [u8], lists: &'a mut Lists) -> Result<Opened<'a>, CardError>
     ensures verdict { result_verdict result ≡ verdict_of card.now }
     ensures opened { IfOk result (λ o. o.card.now ≡ card.now) }
 {
     match <&[u8; LENGTH]>::try_from(card) {
-        Ok(card) => open_right_length(card),
+        Ok(card) => open_right_length(card, lists),
         Err(_) => Err(Rule::CardLength.at(Place::Whole)),
     }
 }
@@ -65,7 +83,7 @@ impl Opened<'_> {
     {
         let directory = Directory {
             card: self.card,
-            used: self.used.as_slice(),
+            used: self.used,
         };
         find_named(directory, name)
     }

@@ -6,4 +6,4 @@ use Rattle.card.proofs.list.Goals as goal
 pub entry_at-requires : goal.entry_at-requires
 entry_at-requires c =
     used_below (directory_of c.in_ok-opened.opened.card.now) _ _
-    (sym (c.first_used.ensures (directory_of c.in_ok-opened.opened.card.now) (rw c.as_slice.ensures c.in_ok-opened.opened.is_open.listed)) ∙ c.in_ok-i.ensures.ok_part)
+    (sym (c.first_used.ensures (directory_of c.in_ok-opened.opened.card.now) c.in_ok-opened.opened.is_open.listed) ∙ c.in_ok-i.ensures.ok_part)

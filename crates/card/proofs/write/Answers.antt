@@ -20,7 +20,7 @@ put_file-requires-clause-in_directory c =
     (unused-at c.args.card.now _
     (lowest _ _ _ _ _ _ c.in_ok-opened.ensures.verdict c.in_ok-file.ensures.verdict _ c.in_ok-opened.ensures.opened c.in_ok-taken_row.ensures _
     (c.as_slice-blocks.ensures ∙ c.list_free-free.ensures) _ file c.if-blocks-size.false
-    c.in_ok-opened.opened.is_open.listed c.as_slice.ensures c.lowest_unused-i.ensures)).in_directory
+    c.in_ok-opened.opened.is_open.listed c.lowest_unused-i.ensures)).in_directory
 
 pub put_file-requires-clause-user_blocks : goal.put_file-requires-clause-user_blocks
 put_file-requires-clause-user_blocks c =
@@ -36,5 +36,5 @@ returns-clause-card_after c =
     (c.as_slice-blocks.ensures ∙ c.list_free-free.ensures) _ file c.if-blocks-size.false
     (lowest _ _ _ _ _ _ c.in_ok-opened.ensures.verdict c.in_ok-file.ensures.verdict _ c.in_ok-opened.ensures.opened c.in_ok-taken_row.ensures _
     (c.as_slice-blocks.ensures ∙ c.list_free-free.ensures) _ file c.if-blocks-size.false
-    c.in_ok-opened.opened.is_open.listed c.as_slice.ensures c.lowest_unused-i.ensures)
+    c.in_ok-opened.opened.is_open.listed c.lowest_unused-i.ensures)
     (rw (whole.same, c.in_ok-file.ensures.file.0, c.in_ok-file.ensures.file.1) at c.put_file.ensures)
