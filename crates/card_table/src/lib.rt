@@ -146,7 +146,7 @@ fn right_fields(root: &[u8; 512]) -> bool
 fn magic_row(root: &[u8; 512]) -> Result<(), CardError>
     ensures { result_verdict result ≡ magic_row root.now }
 {
-    if root[0..16] != [0x55u8; 16] {
+    if root[0..16].as_array().unwrap() != &[0x55u8; 16] {
         return Err(Rule::RootMagic.at(Place::Block(255)));
     }
     Ok(())
