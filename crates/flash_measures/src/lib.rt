@@ -27,6 +27,13 @@ pub struct Measures {
     ghost legal: { model.legal_size size ≡ true },
 }
 
+// A length that a partition may have.
+#[derive(Clone, Copy)]
+pub struct LegalLength {
+    pub bytes: usize,
+    ghost legal: { model.legal_size bytes ≡ true },
+}
+
 // No other length has measures.
 impl TryFrom<usize> for Measures {
     type Error = FlashError;
@@ -37,7 +44,7 @@ impl TryFrom<usize> for Measures {
         if !legal_size(len) {
             return Err(FlashError::ImageLength);
         }
-        Ok(Measures { size: len })
+        Ok(Measures::of(LegalLength { bytes: len }))
     }
 }
 
@@ -50,6 +57,13 @@ pub struct Image<'a> {
 }
 
 impl Measures {
+    // The measures of a length that was tested: this can't fail.
+    pub fn of(length: LegalLength) -> Measures
+        ensures { result.size ≡ length.bytes }
+    {
+        Measures { size: length.bytes }
+    }
+
     // M, the first bitmap block.
     pub fn first_bitmap(self) -> usize
         ensures { result ≡ model.first_bitmap self.size }
