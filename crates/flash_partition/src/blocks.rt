@@ -6,7 +6,7 @@ ghost use Rattle.flash_model.specs.Partition.{block_at, holder};
 ghost use Rattle.flash_partition.specs.Search.{found_up_to, any_numbered, NextNumbered};
 
 use crate::opened::Partition;
-use flash_measures::BLOCK_BYTES;
+use flash_measures::{BLOCK_BYTES, Image};
 use words::word;
 
 // Whether the block that this part is has a right checksum.
@@ -16,15 +16,27 @@ pub fn right_checksum(part: &[u8; 64]) -> bool
     word(part, 62) == usize::from(checksum::checksum(&part[0..62]))
 }
 
+// The part that block k is, of any image that has measures, sound or not.
+pub fn block_at(image: Image<'_>, k: usize) -> &[u8; 64]
+    requires { k ≤ capacity image.m.size }
+    ensures { result.now ≡ block_at image.entry.bytes.now k }
+{
+    let at = image.m.start(k);
+    let end = at + BLOCK_BYTES;
+    image.bytes[at..end].as_array().unwrap()
+}
+
 impl<'a> Partition<'a> {
     // The part of the image that block k is.
     pub fn block(self, k: usize) -> &'a [u8; 64]
         requires { k ≤ capacity self.log.m.size }
         ensures { result.now ≡ block_at self.entry.image.now k }
     {
-        let at = self.log.m.start(k);
-        let end = at + BLOCK_BYTES;
-        self.image[at..end].as_array().unwrap()
+        let measured = Image {
+            bytes: self.image,
+            m: self.log.m,
+        };
+        block_at(measured, k)
     }
 
     // Whether one of the eight blocks up to k has the number. The loop has no early exit: all eight are tested.
