@@ -2,7 +2,8 @@
 
 // What a system flash partition means: definitions in specs/, theorems about them in proofs/. Here stands only the type that both the
 // definitions and the calls use.
-ghost use Rattle.std.specs.Prelude.{◌≡◌};
+ghost use Rattle.std.specs.Prelude.{◌≡◌, ◌++◌, Some, codes};
+ghost use Rattle.std.specs.Fmt.{decimal};
 ghost use Rattle.flash_model.specs.Errors.{error_number};
 
 use std::fmt;
@@ -48,8 +49,10 @@ impl From<FlashError> for u8 {
     }
 }
 
-// As the programs print it.
+// As the programs print it: the word and the number.
 impl fmt::Display for FlashError {
+    ghost output = { λ e. Some (codes "refused " ++ decimal (error_number e)) };
+
     fn fmt<W: fmt::Write>(&self, f: &mut fmt::Formatter<W>) -> fmt::Result {
         write!(f, "refused {}", u8::from(*self))
     }
