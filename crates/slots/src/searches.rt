@@ -27,22 +27,22 @@ pub(crate) enum Searched {
     Full,
 }
 
-// A partition with slots, and for each logical number the block that holds its contents, 0 where there are none.
-#[derive(Drop)]
+// A partition with slots, and for each logical number the block that holds its contents, 0 where there are none. The list is lent by
+// the search: it is too long to be handed out by value.
+#[derive(Clone, Copy)]
 struct Places<'a> {
     partition: Partition<'a>,
-    blocks: [u16; SLOT_PARTITION_NUMBERS],
-    ghost found: { SlotPlaces partition.image.now partition.log.m.size blocks },
+    blocks: &'a [u16; SLOT_PARTITION_NUMBERS],
+    ghost found: { SlotPlaces partition.image.now partition.log.m.size blocks.now },
 }
 
 impl<'a> Places<'a> {
     // All places, in one pass over the blocks.
     #[tactic(auto, using(crate::proofs::HeaderLaws::slot_capacity))]
-    fn of(slots: SlotPartition<'a>) -> Places<'a>
+    fn of(slots: SlotPartition<'a>, blocks: &'a mut [u16; SLOT_PARTITION_NUMBERS]) -> Places<'a>
         ensures { result.partition.image.now ≡ slots.entry.partition.image.now }
     {
-        let mut blocks = [0u16; SLOT_PARTITION_NUMBERS];
-        find_places(slots.partition, &mut blocks);
+        find_places(slots.partition, blocks);
         Places {
             partition: slots.partition,
             blocks,
@@ -50,9 +50,9 @@ impl<'a> Places<'a> {
     }
 
     // The contents of a number, if there are any.
-    fn contents(&self, number: usize) -> Option<&'a [u8; 60]>
+    fn contents(self, number: usize) -> Option<&'a [u8; 60]>
         requires { number < 510 }
-        ensures { option_copied result ≡ contents self.entry.now.partition.image.now number }
+        ensures { option_copied result ≡ contents self.entry.partition.image.now number }
     {
         match self.blocks[number] {
             0 => None,
@@ -62,9 +62,9 @@ impl<'a> Places<'a> {
 
     // The product number of a slot, where it is valid.
     #[tactic(auto, unfolding(flash_model::specs::Slots::slot_header))]
-    fn product(&self, slot: usize) -> Option<&'a [u8; 10]>
+    fn product(self, slot: usize) -> Option<&'a [u8; 10]>
         requires { slot < 100 }
-        ensures { option_copied result ≡ slot_product self.entry.now.partition.image.now slot }
+        ensures { option_copied result ≡ slot_product self.entry.partition.image.now slot }
     {
         let first = self.contents(slot_number(slot, 0))?;
         let second = self.contents(slot_number(slot, 1))?;
@@ -76,7 +76,8 @@ impl<'a> Places<'a> {
 pub(crate) fn search(slots: SlotPartition<'_>, product: &[u8; 10]) -> Searched
     ensures { result ≡ searched_of (product_slot slots.entry.partition.image.now product.now) (free_slot slots.entry.partition.image.now) }
 {
-    let places = Places::of(slots);
+    let mut blocks = [0u16; SLOT_PARTITION_NUMBERS];
+    let places = Places::of(slots, &mut blocks);
     let mut free = None;
     for slot in 0..SLOTS {
         match places.product(slot) {
@@ -110,6 +111,7 @@ pub(crate) fn find_product(slots: SlotPartition<'_>, product: &[u8]) -> Result<u
 pub(crate) fn next_valid(slots: SlotPartition<'_>, from: usize) -> Option<usize>
     ensures { result ≡ lowest_valid slots.entry.partition.image.now from }
 {
-    let places = Places::of(slots);
+    let mut blocks = [0u16; SLOT_PARTITION_NUMBERS];
+    let places = Places::of(slots, &mut blocks);
     (from..SLOTS).find(|slot| places.product(*slot).is_some())
 }
