@@ -165,7 +165,7 @@ fn place_number(place: Place) -> u64
     }
 }
 
-fn copy_protected(protection: CopyProtection) -> u64
+pub fn copy_protected(protection: CopyProtection) -> u64
     ensures { result ≡ protected_number protection }
 {
     match protection {
