@@ -126,17 +126,15 @@ pub fn list_kept(p: Partition<'_>, marks: &mut [u8], kept: &mut [u16]) -> usize
 }
 
 // The lower of `best` and the number of the block that this part is, if that is not below the start and the checksum is
-// right, which is worked only where the number would be the new best. One test decides that: two took longer where numbers stand
-// in any order.
+// right, which is worked only where the number would be the new best. One comparison decides that, since a number below the start is
+// a large one when the start is taken away: two took longer where numbers stand in any order.
 #[tactic(auto, unfolding(crate::specs::BlockTests::lowered, flash_model::specs::UserBlock::number))]
 fn lower(part: &[u8; 64], start: usize, best: usize) -> usize
+    requires { start ≤ best }
     ensures { result ≡ lowered start part.now best }
 {
     let number = word(part, 0);
-    if (number < start) | (best <= number) {
-        return best;
-    }
-    if right_checksum(part) {
+    if number.wrapping_sub(start) < best - start && right_checksum(part) {
         return number;
     }
     best
