@@ -3,10 +3,10 @@
 // One pass over the used blocks for whatever looks at all numbers.
 pub mod places;
 
-ghost use Rattle.std.specs.Prelude.{◌≡◌, true, ◌+◌, ◌≤◌, ◌<◌, length, set};
+ghost use Rattle.std.specs.Prelude.{◌≡◌, true, false, ◌+◌, ◌≤◌, ◌<◌, length, set};
 ghost use Rattle.flash_model.specs.Measures.{capacity};
 ghost use Rattle.flash_model.specs.UserBlock.{number};
-ghost use Rattle.flash_model.specs.Partition.{live, lowest_live};
+ghost use Rattle.flash_model.specs.Partition.{block_at, live, lowest_live};
 ghost use Rattle.flash_listing.specs.BlockTests.{is_new, mark, lowered};
 ghost use Rattle.flash_listing.specs.Passing.{PassAt, PassedTo, Passed, whole, pass_ended, AllListed};
 
@@ -42,7 +42,8 @@ fn mark_number(part: &[u8; 64], marks: &mut [u8]) -> usize
 // Passes over blocks from `from` downwards as long as they are not new. The answer is where the pass stands then.
 fn pass_known(p: Partition<'_>, marks: &[u8], from: usize) -> usize
     requires { PassAt marks.now p from }
-    ensures { PassedTo marks.now p.entry from result }
+    ensures passed { PassedTo marks.now p.entry from result }
+    ensures stops { 0 < result → is_new (capacity p.entry.log.m.size) (block_at p.entry.image.now result) marks.now ≡ true }
 {
     let end = p.log.m.capacity();
     for below in (0..from).rev() {
@@ -73,6 +74,7 @@ fn mark_run<const LISTED: bool>(
     requires room { LISTED ≡ true → capacity p.log.m.size ≤ length kept.old }
     ensures lower { result.at < reached.at }
     ensures passed { Passed LISTED p.entry marks.old kept.old reached marks.new kept.new result }
+    ensures stops { 0 < result.at → is_new (capacity p.entry.log.m.size) (block_at p.entry.image.now (result.at + 1)) marks.new ≡ false }
 {
     let end = p.log.m.capacity();
     let mut count = reached.count;
