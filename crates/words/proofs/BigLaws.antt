@@ -1,13 +1,12 @@
 -- Laws of the number that bytes make big endian, over how many they are.
 -- Assumes nothing.
 use Prim.Native.Nat.{ℕ, zero, suc, ◌+◌, ◌-◌, ◌*◌, ◌/◌, ◌%◌, ◌^◌, ◌<◌, ◌≤◌}
-use mathlib.Core.Path.{◌≡◌, refl, sym, ap, ◌∙◌, subst, subst⁻¹}
+use mathlib.Core.Path.{◌≡◌, refl, sym, ap, ◌∙◌, subst⁻¹}
 use mathlib.Core.List.{List}
 use native.Mathlib.Nat.{zero-add}
 use native.Mathlib.Omega.{arith}
 use lib.ListN.{get_or, take, drop}
 use lib.Pow.{pow-add}
-use Rattle.std.specs.Int.{w64, from_be_bytes}
 use Rattle.std.specs.Array.{IsWholeChunk}
 use Rattle.std.proofs.lemmas.List.{get_or-take, get_or-drop}
 use Rattle.words.specs.BigEndian.{BigMade, Big}
@@ -26,7 +25,7 @@ pub lent-byte : (s : List ℕ) (at : ℕ) (bytes : List ℕ) → IsWholeChunk (t
 lent-byte s at bytes lent k h = ap (λ (l : List ℕ). get_or l k 0) lent.same ∙ part-byte s at (at + 8 - at) k (omega arith)
 
 -- the number that the n bytes from a place make
-abbrev made : List ℕ → ℕ → ℕ → ℕ
+abbrev pub made : List ℕ → ℕ → ℕ → ℕ
 made s at zero = 0
 made s at (suc n) = made s at n * 256 + get_or s (at + n) 0
 
@@ -40,11 +39,9 @@ module _ (s : List ℕ) (at : ℕ) (fit : (i : ℕ) → get_or s i 0 < 256) wher
       let low : w % 256 ≡ get_or s (at + n) 0 = omega arith in
       record { says = (subst⁻¹ (BigMade n s at) high (big-made n).says, sym low) }
 
-  pub big-eight : (bytes : List ℕ) {w : ℕ} → IsWholeChunk (take (at + 8 - at) (drop at s)) bytes 8 → w ≡ from_be_bytes w64 bytes → Big 8 s at w
-  big-eight bytes {w} lent e =
-      let byte = lent-byte s at bytes lent in
-      let same : made s at 8 ≡ w = omega arith in
-      subst (Big 8 s at) same (big-made 8)
+  -- the number that the eight bytes from a place make, however it is come by
+  pub big-eight : {w : ℕ} → w ≡ made s at 8 → Big 8 s at w
+  big-eight same = subst⁻¹ (Big 8 s at) same (big-made 8)
 
 -- the number of a part is that of its bytes in the whole
 pub big-part : (n at m : ℕ) {s : List ℕ} {w : ℕ} → n ≤ m → Big n (take m (drop at s)) 0 w → Big n s at w

@@ -1,15 +1,13 @@
 -- Laws of the number that bytes make little endian, over how many they are.
 -- Assumes nothing.
-use Prim.Native.Nat.{ℕ, zero, suc, ◌+◌, ◌-◌, ◌*◌, ◌/◌, ◌%◌, ◌^◌, ◌<◌, ◌≤◌}
+use Prim.Native.Nat.{ℕ, zero, suc, ◌+◌, ◌*◌, ◌/◌, ◌%◌, ◌^◌, ◌<◌, ◌≤◌}
 use mathlib.Core.Path.{◌≡◌, refl, sym, ap, ◌∙◌, subst, subst⁻¹}
 use mathlib.Core.List.{List}
 use native.Mathlib.Nat.{add-zero}
 use native.Mathlib.Omega.{arith}
 use lib.ListN.{get_or, take, drop}
-use Rattle.std.specs.Int.{w64, from_le_bytes}
-use Rattle.std.specs.Array.{IsWholeChunk}
 use Rattle.words.specs.LittleEndian.{LittleMade, Little, repeated}
-use Rattle.words.proofs.BigLaws.{pow-next, lent-byte, part-byte}
+use Rattle.words.proofs.BigLaws.{pow-next, part-byte}
 
 -- a word without its first byte
 rest : {n : ℕ} {s : List ℕ} {at w : ℕ} → Little (suc n) s at w → Little n s (at + 1) (w / 256)
@@ -30,7 +28,7 @@ little-lt (suc n) {s} {at} {w} known =
     omega arith
 
 -- the number that n bytes make, from the one at k behind a place
-abbrev made : List ℕ → ℕ → ℕ → ℕ → ℕ
+abbrev pub made : List ℕ → ℕ → ℕ → ℕ → ℕ
 made s at k zero = 0
 made s at k (suc n) = get_or s (at + k) 0 + 256 * made s at (k + 1) n
 
@@ -45,11 +43,9 @@ module _ (s : List ℕ) (fit : (i : ℕ) → get_or s i 0 < 256) (at : ℕ) wher
       let next : at + (k + 1) ≡ at + k + 1 = omega arith in
       record { says = (sym low, subst⁻¹ (LittleMade n s (at + k + 1)) high (subst (λ (i : ℕ). Little n s i (made s at (k + 1) n)) next (little-made n (k + 1))).says) }
 
-  pub little-eight : (bytes : List ℕ) {w : ℕ} → IsWholeChunk (take (at + 8 - at) (drop at s)) bytes 8 → w ≡ from_le_bytes w64 bytes → Little 8 s at w
-  little-eight bytes {w} lent e =
-      let byte = lent-byte s at bytes lent in
-      let same : made s at 0 8 ≡ w = omega arith in
-      subst (λ (i : ℕ). Little 8 s i w) (add-zero at) (subst (Little 8 s (at + 0)) same (little-made 8 0))
+  -- the number that the eight bytes from a place make, however it is come by
+  pub little-eight : {w : ℕ} → w ≡ made s at 0 8 → Little 8 s at w
+  little-eight {w} same = subst (λ (i : ℕ). Little 8 s i w) (add-zero at) (subst⁻¹ (Little 8 s (at + 0)) same (little-made 8 0))
 
 -- the number of a part is that of its bytes in the whole
 pub little-part : (n at m : ℕ) {s : List ℕ} {w : ℕ} → n ≤ m → Little n (take m (drop at s)) 0 w → Little n s at w

@@ -1,6 +1,9 @@
-use Rattle.std.proofs.Common.{rules}
-use Rattle.words.proofs.BigLaws.{big-eight}
+use Rattle.std.proofs.Common.{rules, arith}
+use Rattle.words.proofs.BigLaws.{lent-byte, big-eight}
 use Rattle.words.proofs.loads.big8.Goals as goal
 
+-- `omega` would do here; `grind` also proves code that comes by the same eight bytes with stores or swaps, so that an edit of them is refused for its bytes
 pub returns : goal.returns
-returns c = big-eight c.args.s.now c.args.at (search rules) _ (rw c.unwrap.ensures at c.as_array.ensures.cases) c.from_be_bytes.ensures
+returns c =
+    let lent = lent-byte c.args.s.now c.args.at _ (rw c.unwrap.ensures at c.as_array.ensures.cases) in
+    big-eight c.args.s.now c.args.at (search rules) (grind (arith, lent))
