@@ -1,10 +1,11 @@
 #![tactic(auto)]
 
 // Opening a card: every call begins with it, and the rows 20 to 30 are put together here and nowhere else.
-ghost use Rattle.std.specs.Prelude.{◌≡◌, IfOk};
+ghost use Rattle.std.specs.Prelude.{◌≡◌, [], IfOk};
 ghost use Rattle.verdicts.specs.Rows.{result_verdict};
 ghost use Rattle.card_model.specs.Layout.{directory_of};
 ghost use Rattle.card_model.specs.Calls.{verdict_of, entry_named};
+ghost use Rattle.card_chains.specs.Marks.{no_marks};
 ghost use Rattle.card_check.specs.Opening.{OpenCard};
 
 use card_chains::walk_files;
@@ -25,7 +26,10 @@ pub struct Lists {
 }
 
 impl Lists {
-    pub fn new() -> Lists {
+    #[tactic(auto, unfolding(card_chains::specs::Marks::no_marks))]
+    pub fn new() -> Lists
+        ensures { (result.used ≡ []) × (result.marks ≡ no_marks) }
+    {
         Lists {
             used: UsedEntries::new(),
             marks: [0; 200],
