@@ -142,6 +142,7 @@ fn right_fields(root: &[u8; 512]) -> bool
         & (word(root, 0x50) == 200)
 }
 
+// Arrays are compared, since a comparison of slices is a call.
 #[tactic(auto, using(crate::proofs::TableLaws::magic_tested))]
 fn magic_row(root: &[u8; 512]) -> Result<(), CardError>
     ensures { result_verdict result ≡ magic_row root.now }

@@ -27,7 +27,7 @@ pub struct Measures {
     ghost legal: { model.legal_size size ≡ true },
 }
 
-// A length that a partition may have.
+// A length that was tested: of it `Measures::of` can't fail.
 #[derive(Clone, Copy)]
 pub struct LegalLength {
     pub bytes: usize,
@@ -57,7 +57,7 @@ pub struct Image<'a> {
 }
 
 impl Measures {
-    // The measures of a length that was tested: this can't fail.
+    // The measures of that length.
     pub fn of(length: LegalLength) -> Measures
         ensures { result.size ≡ length.bytes }
     {

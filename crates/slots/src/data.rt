@@ -34,6 +34,7 @@ fn valid_slot(slots: SlotPartition<'_>, slot: usize) -> bool
 
 // The logical number of a data block: refusals 42 where the slot is above 99 or not valid, and 43 where the block is neither 0 nor 1.
 #[tactic(auto, using(crate::proofs::HeaderLaws::slot_legal), unfolding(flash_model::specs::Slots::no_slot, flash_model::specs::Slots::no_block, flash_model::specs::Slots::data_number))]
+#[inline(always)]
 fn data_number(slots: SlotPartition<'_>, at: DataBlock) -> Result<usize, FlashError>
     ensures code { result_code result ≡ slot_rows slots.entry.partition.image.now at.slot at.block 0 }
     ensures number { IfOk result (λ n. (n ≡ data_number at.slot at.block) × (legal_number slots.entry.partition.log.m.size n ≡ true)) }
