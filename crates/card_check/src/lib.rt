@@ -1,7 +1,7 @@
 #![tactic(auto)]
 
 // Opening a card: every call begins with it, and the rows 20 to 30 are put together here and nowhere else.
-ghost use Rattle.std.specs.Prelude.{◌≡◌, [], IfOk};
+ghost use Rattle.std.specs.Prelude.{◌≡◌, IfOk};
 ghost use Rattle.verdicts.specs.Rows.{result_verdict};
 ghost use Rattle.card_model.specs.Layout.{directory_of};
 ghost use Rattle.card_model.specs.Calls.{verdict_of, entry_named};
@@ -28,10 +28,10 @@ pub struct Lists {
 impl Lists {
     #[tactic(auto, unfolding(card_chains::specs::Marks::no_marks))]
     pub fn new() -> Lists
-        ensures { (result.used ≡ []) × (result.marks ≡ no_marks) }
+        ensures { result.marks ≡ no_marks }
     {
         Lists {
-            used: UsedEntries::new(),
+            used: [0; 208],
             marks: [0; 200],
         }
     }
@@ -56,8 +56,7 @@ fn open_right_length<'a>(
     ensures opened { IfOk result (λ o. o.card.now ≡ card.now) }
 {
     table_verdict(card)?;
-    lists.used = list_used(card);
-    let used = lists.used.as_slice();
+    let used = list_used(card, &mut lists.used);
     let directory = Directory { card, used };
     entry_row(directory)?;
     let marks = &mut lists.marks;

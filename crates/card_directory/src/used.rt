@@ -10,23 +10,21 @@ use crate::opened_directory::Directory;
 use crate::search::find_used;
 use card_model::LENGTH;
 use verdicts::{CardError, Place, Rule};
-use words::byte_list::ByteList;
 
-// The numbers of the used entries.
-pub type UsedEntries = ByteList<208>;
+// Memory for the numbers of the used entries.
+pub type UsedEntries = [u8; 208];
 
-// Lists the used entries. Each entry is put behind the list and counted where it is used: no step depends on a branch, and the
-// count stays in a register, where a list behind a reference would keep it in memory.
-pub fn list_used(card: &[u8; LENGTH]) -> UsedEntries
-    ensures { Listed (directory_of card.now) 208 result (length result) }
+// Lists the used entries in memory that is lent, and gives the part that is the list. Each entry is put behind the list and counted where
+// it is used: no step depends on a branch.
+pub fn list_used<'a>(card: &[u8; LENGTH], numbers: &'a mut UsedEntries) -> &'a [u8]
+    ensures { Listed (directory_of card.now) 208 result.now (length result.now) }
 {
-    let mut numbers = [0; 208];
     let mut count = 0;
     for i in 0..208 {
         numbers[count] = i as u8;
         count += usize::from(is_used(entry_at(card, i)));
     }
-    UsedEntries::of(numbers, count)
+    &numbers[..count]
 }
 
 // Refusal 26, of the first wrong entry of the list.

@@ -21,4 +21,4 @@ loop-i-preserved c =
 pub returns : goal.returns
 returns c =
     let z : c.loop-i.i ≡ 208 = omega arith in
-    rw c.of.ensures (rw z at c.loop-i.invariant.listed)
+    rw z at c.loop-i.invariant.listed
