@@ -1,12 +1,13 @@
 -- Laws of runs of bytes and two-byte numbers. Assumes nothing.
-use Prim.Native.Nat.{ℕ, suc, ◌+◌, ◌/◌, ◌%◌}
+use Prim.Native.Nat.{ℕ, suc, ◌+◌, ◌/◌, ◌%◌, ◌≤◌, ◌<◌}
 use mathlib.Core.Path.{◌≡◌, refl, sym, ap, ◌∙◌}
-use mathlib.Core.Bool.{Bool, true, false, false≢true, and-false}
+use mathlib.Core.Bool.{Bool, true, false, ◌&&◌, false≢true, and-false}
 use mathlib.Core.List.{List, [], ◌∷◌, ◌++◌}
 use native.Mathlib.Omega.{arith}
 use lib.Dec.{eqb}
-use lib.ListN.{length, get_or, set}
-use lib.Seq.{get_or_at, get_or-append-add}
+use native.Mathlib.Numerals.{add-one}
+use lib.ListN.{length, get_or, drop, set, drop_of_length-le}
+use lib.Seq.{get_or_at, get_or-append-add, drop-cons}
 use borrow.Author.Tests.{eqb-true, eq-eqb}
 use Rattle.words.specs.Words.{word, word_bytes, same_bytes}
 use Rattle.words.proofs.Bools.{and-true-left, and-true-right}
@@ -50,6 +51,19 @@ same-lengths [] [] h = absurd (h refl)
 same-lengths [] (y ∷ b) h = refl
 same-lengths (x ∷ a) [] h = refl
 same-lengths (x ∷ a) (y ∷ b) h = rw (same-lengths a b (λ e. h (ap suc e)), and-false)
+
+-- at index i of two runs of one length
+module _ (a b : List ℕ) (i : ℕ) (e : length a ≡ length b) where
+  pub same_next : i < length a
+      → same_bytes (drop i a) (drop i b) ≡ (eqb (get_or a i 0) (get_or b i 0) && same_bytes (drop (i + 1) a) (drop (i + 1) b))
+  same_next ha =
+      let hb : i < length b = omega arith in
+      rw (drop-cons a i 0, drop-cons b i 0, add-one i)
+
+  pub same_end : length a ≤ i → same_bytes (drop i a) (drop i b) ≡ true
+  same_end ha =
+      let hb : length b ≤ i = omega arith in
+      rw (drop_of_length-le a ha, drop_of_length-le b hb)
 
 -- both bytes of a part stored
 pub set-two : (part : List ℕ) (x y : ℕ) → length part ≡ 2 → set (set part 0 x) 1 y ≡ x ∷ y ∷ []
