@@ -23,11 +23,11 @@ use Rattle.checksum.proofs.ShiftLaws.{shifts-lt, shifts-xor, shifts-add, shifts-
 use Rattle.checksum.proofs.RemainderLaws.{rem_lt, rem-xor, rem-cat, rem-shl, rem-small}
 use Rattle.checksum.proofs.LittleLaws.{little-lt, little-more}
 
-crc-next : (n i : ℕ) (bytes : List ℕ) → i < length bytes → crc_from n (drop i bytes) ≡ crc_from (take_byte n (get_or bytes i 0)) (drop (i + 1) bytes)
+pub crc-next : (n i : ℕ) (bytes : List ℕ) → i < length bytes → crc_from n (drop i bytes) ≡ crc_from (take_byte n (get_or bytes i 0)) (drop (i + 1) bytes)
 unfolding crc_from
 crc-next n i bytes h = rw (add-one, drop-cons bytes i 0)
 
-crc-end : (n i : ℕ) (bytes : List ℕ) → length bytes ≤ i → crc_from n (drop i bytes) ≡ n
+pub crc-end : (n i : ℕ) (bytes : List ℕ) → length bytes ≤ i → crc_from n (drop i bytes) ≡ n
 unfolding crc_from
 crc-end n i bytes h = rw drop_of_length-le
 
@@ -104,13 +104,12 @@ crc-little (suc n) {s} {at} {w} r h known long =
     ∙ crc-little n x hx (record { says = known.says.1 }) (omega arith)
     ∙ ap₂ (λ (v i : ℕ). crc_from (shifts 16 v) (drop i s)) (behind-first n r b (w / 256) h hb) next
 
--- the word at i behind the polynomial a of 64 digits, which a fold has made f
-pub crc-fold : (s : List ℕ) (i a f w : ℕ) → rem 64 f ≡ shifts 64 (rem 64 a) → Big 8 s (i * 8) w → i * 8 + 8 ≤ length s
-    → crc_from (shifts 16 (rem 64 a)) (drop (i * 8) s) ≡ crc_from (shifts 16 (rem 64 (bit_xor f w))) (drop ((i + 1) * 8) s)
+-- a word behind the polynomial a of 64 digits, which a fold has made f
+pub crc-fold : (s : List ℕ) (i a f w : ℕ) → rem 64 f ≡ shifts 64 (rem 64 a) → Big 8 s i w → i + 8 ≤ length s
+    → crc_from (shifts 16 (rem 64 a)) (drop i s) ≡ crc_from (shifts 16 (rem 64 (bit_xor f w))) (drop (i + 8) s)
 crc-fold s i a f w folded known long =
-    let next : i * 8 + 8 ≡ (i + 1) * 8 = omega arith in
     crc-word 8 (rem 64 a) (rem_lt 64 a) known long
-    ∙ ap₂ (λ (x n : ℕ). crc_from (shifts 16 x) (drop n s)) (sym (rem-xor 64 f w ∙ ap (λ (x : ℕ). bit_xor x (rem 64 w)) folded)) next
+    ∙ ap (λ (x : ℕ). crc_from (shifts 16 x) (drop (i + 8) s)) (sym (rem-xor 64 f w ∙ ap (λ (x : ℕ). bit_xor x (rem 64 w)) folded))
 
 -- the running value begins at FFFF, which 16 shifts make of 33999
 start : shifts 16 33999 ≡ 65535

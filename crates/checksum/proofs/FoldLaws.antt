@@ -16,7 +16,7 @@ use Rattle.checksum.proofs.RemainderLaws.{rem_lt, rem-xor, rem-cat, rem-shl, rem
 use Rattle.checksum.proofs.RuleLaws.{Rule, sum-shifts, rule-16, rule-32, rule-64}
 
 -- ---- a word of e + k digits shifted left by k, and kept to its width
-rem-shl-word : (e k q : ℕ) → q < 2 ^ (e + k)
+pub rem-shl-word : (e k q : ℕ) → q < 2 ^ (e + k)
     → rem (e + k) (q * 2 ^ k % 2 ^ (e + k)) ≡ bit_xor (shifts k (rem (e + k) q)) (shifts (e + k) (rem (e + k) (q / 2 ^ e)))
 rem-shl-word e k q h =
     let w = e + k in
@@ -39,7 +39,7 @@ module _ (s e a : ℕ) where
   abbrev once : ℕ
   once = bit_xor a (a / 2 ^ s)
 
-  abbrev quotient : ℕ
+  abbrev pub quotient : ℕ
   quotient = bit_xor (bit_xor once (once / 2 ^ (s + s))) (a / 2 ^ e)
 
   gone : a < 2 ^ (s + s + (s + s)) → (k : ℕ) → s + s + (s + s) ≤ k → a / 2 ^ k ≡ 0
@@ -57,7 +57,7 @@ module _ (s e a : ℕ) where
       (shr-shr a e k)
 
   -- the quotient undoes it
-  quotient-back : a < 2 ^ (s + s + (s + s)) → s + s ≤ e → bit_xor (bit_xor quotient (quotient / 2 ^ e)) (quotient / 2 ^ s) ≡ a
+  pub quotient-back : a < 2 ^ (s + s + (s + s)) → s + s ≤ e → bit_xor (bit_xor quotient (quotient / 2 ^ e)) (quotient / 2 ^ s) ≡ a
   quotient-back h le =
       let a1 = a / 2 ^ s in
       let a2 = a / 2 ^ (s + s) in
@@ -82,15 +82,23 @@ module _ (s e a : ℕ) where
       (var 0) refl
 
 -- the quotient keeps to the width
-quotient-lt : (w s e a : ℕ) → a < 2 ^ w → quotient s e a < 2 ^ w
+pub quotient-lt : (w s e a : ℕ) → a < 2 ^ w → quotient s e a < 2 ^ w
 quotient-lt w s e a h =
     let once = bit_xor a (a / 2 ^ s) in
     let once-w : once < 2 ^ w = xor_lt w a (a / 2 ^ s) h (omega (arith, shr_le a s)) in
     xor_lt w (bit_xor once (once / 2 ^ (s + s))) (a / 2 ^ e)
     (xor_lt w once (once / 2 ^ (s + s)) once-w (omega (arith, shr_le once (s + s)))) (omega (arith, shr_le a e))
 
+-- and so does the fold
+pub fold-lt : (w s e i d a : ℕ) → a < 2 ^ w
+    → bit_xor (bit_xor (quotient s e a) (quotient s e a * 2 ^ d % 2 ^ w)) (quotient s e a * 2 ^ i % 2 ^ w) < 2 ^ w
+fold-lt w s e i d a h =
+    let q = quotient s e a in
+    xor_lt w (bit_xor q (q * 2 ^ d % 2 ^ w)) (q * 2 ^ i % 2 ^ w)
+    (xor_lt w q (q * 2 ^ d % 2 ^ w) (quotient-lt w s e a h) (mod-lt (q * 2 ^ d) (pow_pos w))) (mod-lt (q * 2 ^ i) (pow_pos w))
+
 -- the fold: what is left of q, q shifted by d and q shifted by i, is w shifts of a
-fold : (w s e i d : ℕ) → w ≡ s + s + (s + s) → w ≡ e + d → w ≡ s + i → s + s ≤ e → Rule w i d → (a : ℕ) → a < 2 ^ w
+pub fold : (w s e i d : ℕ) → w ≡ s + s + (s + s) → w ≡ e + d → w ≡ s + i → s + s ≤ e → Rule w i d → (a : ℕ) → a < 2 ^ w
     → rem w (bit_xor (bit_xor (quotient s e a) (quotient s e a * 2 ^ d % 2 ^ w)) (quotient s e a * 2 ^ i % 2 ^ w)) ≡ shifts w (rem w a)
 fold w s e i d w4 wd wi le known a h =
     let q = quotient s e a in

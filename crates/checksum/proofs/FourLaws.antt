@@ -9,7 +9,6 @@ use native.Mathlib.Omega.{arith}
 use lib.Dec.{lit<}
 use lib.Bits.{bit_xor, xor_lt, xor_mod, xor_zero_r}
 use lib.ListN.{length, drop}
-use Rattle.std.specs.Int.{w64, swap_bytes}
 use Rattle.words.specs.LittleEndian.{Little}
 use Rattle.checksum.specs.Crc.{shift, shifts, crc_from}
 use Rattle.checksum.specs.Polynomial.{rem, rem_little, rem_two, rem_three, rem_four}
@@ -17,7 +16,7 @@ use Rattle.checksum.proofs.XorLaws.{xor-shl}
 use Rattle.checksum.proofs.XorSolver.{var, both, solve}
 use Rattle.checksum.proofs.ShiftLaws.{shifts-lt, shifts-xor, shifts-add, shifts-zero}
 use Rattle.checksum.proofs.RemainderLaws.{rem-xor}
-use Rattle.checksum.proofs.LittleLaws.{little-lt, little-xor, little-shift, rem-swap-bytes}
+use Rattle.checksum.proofs.LittleLaws.{little-lt, little-xor, little-shift}
 use Rattle.checksum.proofs.RuleLaws.{rule-128, rule-256, sum-shifts}
 use Rattle.checksum.proofs.CrcLaws.{behind, crc-behind, behind-nothing, start-little}
 
@@ -139,14 +138,12 @@ module _ (a : ℕ) where
       ∙ ap (λ (x : ℕ). bit_xor (bit_xor x (up 64 b)) (rem_little 8 c)) (sym (back ∙ ap (λ (x : ℕ). bit_xor x (up 128 half)) h128))
       ∙ sym (three-sum a b c)
 
--- two such folds make two words, v and w, of the four; their bytes are swapped, to x and y, and the first of them is folded, to f
+-- two such folds make two words, v and w, of the four; these are swapped, to x and y, and the first of them is folded, to f
 pub four-remainder : (a b c d t u v w x y f : ℕ) → rem_two t u ≡ rem_three a b c → rem_two v w ≡ rem_three t u d
-    → x ≡ swap_bytes w64 v → rem 64 f ≡ shifts 64 (rem 64 x) → y ≡ swap_bytes w64 w → rem 64 (bit_xor f y) ≡ rem_four a b c d
+    → rem 64 x ≡ rem_little 8 v → rem 64 f ≡ shifts 64 (rem 64 x) → rem 64 y ≡ rem_little 8 w → rem 64 (bit_xor f y) ≡ rem_four a b c d
 unfolding rem_two rem_three rem_four
 four-remainder a b c d t u v w x y f once twice ex ef ey =
-    let swapped : (z n : ℕ) → z ≡ swap_bytes w64 n → rem 64 z ≡ rem_little 8 n = λ z n e. ap (rem 64) e ∙ rem-swap-bytes n in
-    rem-xor 64 f y ∙ ap₂ bit_xor (ef ∙ ap (shifts 64) (swapped x v ex)) (swapped y w ey) ∙ twice
-    ∙ ap (λ (z : ℕ). bit_xor (shifts 64 z) (rem_little 8 d)) once
+    rem-xor 64 f y ∙ ap₂ bit_xor (ef ∙ ap (shifts 64) ex) ey ∙ twice ∙ ap (λ (z : ℕ). bit_xor (shifts 64 z) (rem_little 8 d)) once
 
 pub four-first : (s : List ℕ) (a b c d : ℕ) → Little 8 s 0 a → Little 8 s 8 b → Little 8 s 16 c → Little 8 s 24 d → 32 ≤ length s
     → crc_from 65535 s ≡ crc_from (shifts 16 (behind 33999 256 (rem_four a b c d))) (drop 32 s)

@@ -1,14 +1,14 @@
 -- The remainder of bytes loaded little endian is linear over the exclusive or. Bytes behind a number shift it, and so does a
 -- shift by whole bytes, the other way round.
 -- Assumes nothing.
-use Prim.Native.Nat.{ℕ, zero, suc, ◌+◌, ◌*◌, ◌/◌, ◌%◌, ◌^◌, ◌<◌}
+use Prim.Native.Nat.{ℕ, zero, suc, ◌+◌, ◌-◌, ◌*◌, ◌/◌, ◌%◌, ◌^◌, ◌<◌, ◌≤◌}
 use mathlib.Core.Path.{◌≡◌, refl, sym, ap, ap₂, ◌∙◌, subst}
 use mathlib.Core.List.{[], ◌∷◌}
 use native.Mathlib.Nat.{mod-lt, add-zero, zero-add, suc-add, add_comm, add-mul, zero-mul, mul_assoc, mul-mod_left, div-add-mod'}
 use native.Mathlib.Omega.{arith}
 use lib.Dec.{lit<, lit≤}
 use lib.Bits.{bit_xor, xor_lt, xor_shr, xor_mod, xor_zero_r}
-use lib.Pow.{pow_pos, shl-shr, shr_lt, mod-pow-add}
+use lib.Pow.{pow_pos, shl-shr, shr_lt, shl_exact, mod-pow-add}
 use Rattle.std.specs.Int.{w64, swap_bytes}
 use Rattle.std.proofs.lemmas.Nat.{mul-add-lt}
 use Rattle.words.proofs.BigLaws.{pow-next}
@@ -17,7 +17,7 @@ use Rattle.checksum.specs.Polynomial.{rem, rem_little}
 use Rattle.checksum.proofs.XorLaws.{xor_assoc}
 use Rattle.checksum.proofs.XorSolver.{var, both, solve}
 use Rattle.checksum.proofs.ShiftLaws.{shifts-lt, shifts-xor, shifts-add, shifts-zero}
-use Rattle.checksum.proofs.RemainderLaws.{rem-cat, rem-small}
+use Rattle.checksum.proofs.RemainderLaws.{rem-zero, rem-xor, rem-shl, rem-cat, rem-small, rem-more}
 
 low-lt : (w : ℕ) → w % 256 < 65536
 low-lt w = omega arith
@@ -129,3 +129,36 @@ pub rem-swap-bytes : (x : ℕ) → rem 64 (swap_bytes w64 x) ≡ rem_little 8 x
 rem-swap-bytes x =
     let same : swap_bytes w64 x ≡ swapped 8 x = omega arith in
     ap (rem 64) same ∙ rem-swapped 8 x
+
+-- ---- the bytes of x one by one, the lowest put on top of a word of 64 digits
+
+-- a byte shifted up
+byte-up : (k b : ℕ) → k ≤ 56 → b < 256 → rem 64 (b * 2 ^ k % 18446744073709551616) ≡ shifts k b
+byte-up k b fits h =
+    let j = 56 - k in
+    let width : j + 8 + k ≡ 64 = omega arith in
+    ap (rem 64) (shl_exact 8 k 64 h (omega arith))
+    ∙ ap (λ (x : ℕ). rem x (b * 2 ^ k)) (sym width) ∙ rem-shl (j + 8) k b
+    ∙ ap (shifts k) (rem-more j 8 b h ∙ rem-small 8 b (lit≤ tt) h)
+
+-- t is the remainder of what is put into `done` and of the bytes of y, which are left: the first of them is put there too
+pub swap-next : (n y z done : ℕ) {t : ℕ} → n * 8 ≤ 56 → y / 256 ≡ z → t ≡ bit_xor (rem 64 done) (rem_little (suc n) y)
+    → t ≡ bit_xor (rem 64 (bit_xor done (y % 256 * 2 ^ (n * 8) % 18446744073709551616))) (rem_little n z)
+unfolding rem_little
+swap-next n y z done {t} fits rest e =
+    let b = y % 256 in
+    let up = b * 2 ^ (n * 8) % 18446744073709551616 in
+    e ∙ sym (xor_assoc (rem 64 done) (shifts (n * 8) b) (rem_little n (y / 256)))
+    ∙ ap₂ (λ (u v : ℕ). bit_xor (bit_xor (rem 64 done) u) (rem_little n v)) (sym (byte-up (n * 8) b fits (mod-lt y (lit< tt)))) rest
+    ∙ ap (λ (u : ℕ). bit_xor u (rem_little n z)) (sym (rem-xor 64 done up))
+
+pub swap-start : (x : ℕ) → rem_little 8 x ≡ bit_xor (rem 64 0) (rem_little 8 x)
+swap-start x = sym (ap (λ (u : ℕ). bit_xor u (rem_little 8 x)) (rem-zero 64))
+
+-- the last of them stands at the end as it is
+pub swap-end : (y done : ℕ) {t : ℕ} → t ≡ bit_xor (rem 64 done) (rem_little 1 y) → t ≡ rem 64 (bit_xor done (y % 256))
+unfolding rem_little shifts
+swap-end y done {t} e =
+    let low : y % 256 < 256 = mod-lt y (lit< tt) in
+    e ∙ ap (bit_xor (rem 64 done)) (xor_zero_r (y % 256) ∙ sym (rem-more 56 8 (y % 256) low ∙ rem-small 8 (y % 256) (lit≤ tt) low))
+    ∙ sym (rem-xor 64 done (y % 256))

@@ -1,4 +1,4 @@
-use Rattle.std.proofs.Common.{ℕ, ◌≡◌, ◌/◌, ◌<◌, sym, ap, ◌∙◌, length, get_or, List, [], arith}
+use Rattle.std.proofs.Common.{ℕ, ◌≡◌, ◌+◌, ◌*◌, ◌/◌, ◌<◌, sym, ap, ◌∙◌, length, get_or, List, [], arith}
 use mathlib.Core.Path.{subst}
 use lib.Bits.{xor_lt}
 use lib.Dec.{lit<, lit≤}
@@ -19,9 +19,10 @@ loop-word-preserved c =
     let i = c.loop-word.word-index in
     let cut = c.as_chunks.ensures in
     let here : i < length s / 8 = omega arith in
+    let next : i * 8 + 8 ≡ (i + 1) * 8 = omega arith in
     let known = big-chunk s _ i here (subst (λ (l : List (List ℕ)). Big 8 (get_or l i []) 0 c.big8.result) cut.front c.big8.ensures) in record {
       fits = xor_lt 64 _ _ c.fold.type_inv c.big8.type_inv;
-      taken = sym (crc-fold s i c.loop-word.a c.fold.result c.big8.result c.fold.ensures.shifted known (omega arith)) ∙ c.loop-word.invariant.taken;
+      taken = sym (rw next at (crc-fold s (i * 8) c.loop-word.a c.fold.result c.big8.result c.fold.ensures.shifted known (omega arith))) ∙ c.loop-word.invariant.taken;
     }
 
 pub returns : goal.returns
