@@ -3,7 +3,6 @@ use Prim.Native.Nat.{ℕ, suc, ◌+◌, ◌*◌, ◌-◌, ◌≤◌, ◌<◌}
 use mathlib.Core.Path.{◌≡◌, refl, sym, ◌∙◌}
 use mathlib.Core.List.{List, [], ◌∷◌, ◌++◌, map, append_assoc, append-nil}
 use native.Mathlib.Omega.{arith}
-use native.Mathlib.Numerals.{add-one}
 use lib.ListN.{length, get_or, take, drop, length-drop}
 use lib.Seq.{drop-cons, drop-length, drop-drop, length-paste, take-paste, drop-paste}
 use Rattle.words.specs.Lists.{concat}
@@ -49,44 +48,54 @@ module _ (k to : ℕ) (image : List ℕ) (down : to ≤ k) (fits : k * 64 + 64 �
 
 -- ---- all of them
 
--- the first i listed blocks stand where they are to
-pub record Conserved (kept start : List ℕ) (i : ℕ) (image : List ℕ) : Type 0 where
+-- the listed blocks below place `to` stand where they are to
+pub record Conserved (kept start : List ℕ) (to : ℕ) (image : List ℕ) : Type 0 where
+  pub low : 1 ≤ to
+  pub high : to ≤ length kept + 1
   pub same_length : length image ≡ length start
-  pub rising : RisingBlocks (i + 1) (length start) (drop i kept)
-  pub front_is : take ((i + 1) * 64) image ++ concat (map (block_at image) (drop i kept)) ≡ take 64 start ++ concat (map (block_at start) kept)
+  pub rising : RisingBlocks to (length start) (drop (to - 1) kept)
+  pub front_is : take (to * 64) image ++ concat (map (block_at image) (drop (to - 1) kept)) ≡ take 64 start ++ concat (map (block_at start) kept)
 
-module _ (kept start : List ℕ) (i : ℕ) (image : List ℕ) (c : Conserved kept start i image) (more : i < length kept) where
+pub conserved-start : (kept start : List ℕ) → RisingBlocks 1 (length start) kept → Conserved kept start 1 start
+conserved-start kept start r = record { low = omega arith; high = omega arith; same_length = refl; rising = r; front_is = refl }
+
+module _ (kept start : List ℕ) (to : ℕ) (image : List ℕ) (c : Conserved kept start to image) (more : to ≤ length kept) where
   abbrev k : ℕ
-  k = get_or kept i 0
+  k = get_or kept (to - 1) 0
 
-  left : drop i kept ≡ k ∷ drop (i + 1) kept
-  left = rw add-one (drop-cons kept i 0 more)
+  left : drop (to - 1) kept ≡ k ∷ drop (to + 1 - 1) kept
+  left =
+      let e : suc (to - 1) ≡ to + 1 - 1 = omega (arith, c.low) in
+      drop-cons kept (to - 1) 0 (omega (arith, c.low)) ∙ rw e
 
-  rises : RisingBlocks (i + 1) (length start) (k ∷ drop (i + 1) kept)
+  rises : RisingBlocks to (length start) (k ∷ drop (to + 1 - 1) kept)
   rises = rw left at c.rising
 
-  pub next_down : i + 1 ≤ k
+  pub next_down : to ≤ k
   next_down = rises.0
 
   pub next_fits : k * 64 + 64 ≤ length image
   next_fits = omega (arith, rises.1.0, c.same_length)
 
-  pub conserved-next : (image' : List ℕ) → image' ≡ with_block image (i + 1) (block_at image k) → Conserved kept start (i + 1) image'
+  pub conserved-next : (image' : List ℕ) → image' ≡ with_block image to (block_at image k) → Conserved kept start (to + 1) image'
   conserved-next image' e = rw e (record {
-    same_length = moved_length k (i + 1) image next_down next_fits ∙ c.same_length;
-    rising = rising-lower (suc k) (i + 1 + 1) (length start) (drop (i + 1) kept) (omega (arith, next_down)) rises.1.1;
+    low = omega arith;
+    high = omega arith;
+    same_length = moved_length k to image next_down next_fits ∙ c.same_length;
+    rising = rising-lower (suc k) (to + 1) (length start) (drop (to + 1 - 1) kept) (omega (arith, next_down)) rises.1.1;
     front_is =
         rw (
-          moved_front k (i + 1) image next_down next_fits,
-          blocks-same (moved k (i + 1) image next_down next_fits) image (suc k) (length start) (moved-above k (i + 1) image next_down next_fits) (drop (i + 1) kept) rises.1.1,
+          moved_front k to image next_down next_fits,
+          blocks-same (moved k to image next_down next_fits) image (suc k) (length start) (moved-above k to image next_down next_fits) (drop (to + 1 - 1) kept) rises.1.1,
         )
-        (append_assoc (take ((i + 1) * 64) image) (block_at image k) (concat (map (block_at image) (drop (i + 1) kept))) ∙ rw left at c.front_is);
+        (append_assoc (take (to * 64) image) (block_at image k) (concat (map (block_at image) (drop (to + 1 - 1) kept))) ∙ rw left at c.front_is);
   })
 
-pub all_moved : (kept start : List ℕ) (i : ℕ) (image : List ℕ) → Conserved kept start i image → i ≡ length kept → AllMoved kept start image (length kept + 1)
-all_moved kept start i image c done =
+pub all_moved : (kept start : List ℕ) (to : ℕ) (image : List ℕ) → Conserved kept start to image → length kept < to → AllMoved kept start image to
+all_moved kept start to image c done =
+    let e : to - 1 ≡ length kept = omega (arith, c.high) in
     record {
-      front_is = sym (append-nil (take ((length kept + 1) * 64) image)) ∙ rw (done, drop-length kept) at c.front_is;
-      next_is = omega arith;
+      front_is = sym (append-nil (take (to * 64) image)) ∙ rw (e, drop-length kept) at c.front_is;
+      next_is = omega (arith, c.high);
       same_length = c.same_length;
     }
