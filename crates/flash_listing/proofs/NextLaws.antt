@@ -38,6 +38,14 @@ pub record BestSoFar (image : List ℕ) (start end k best : ℕ) : Type 0 where
   pub is_seen : best < end → Seen image k best
   pub none_lower : (n j : ℕ) → start ≤ n → n < best → 1 ≤ j → j < k → copy_at image n j ≡ false
 
+pub best-first : (image : List ℕ) (start end : ℕ) → BestSoFar image start end 1 end
+best-first image start end = record {
+  bound = omega arith;
+  not_below = λ h. absurd (omega arith);
+  is_seen = λ h. absurd (omega arith);
+  none_lower = λ n j a b c d. absurd (omega arith);
+}
+
 module _ (image : List ℕ) (start end k best : ℕ) (b : BestSoFar image start end k best) where
   abbrev block : List ℕ
   block = block_at image k

@@ -1,6 +1,6 @@
 use Rattle.std.proofs.Common.{◌+◌, ◌∙◌, arith}
 use Rattle.flash_partition.proofs.UsableLaws.{usable-measured, count_most}
-use Rattle.flash_listing.proofs.NextLaws.{best-next, start-past, start-found, all-passed}
+use Rattle.flash_listing.proofs.NextLaws.{best-first, best-next, start-past, start-found, all-passed}
 use Rattle.flash_listing.proofs.next_number.Goals as goal
 use Rattle.flash_listing.proofs.next_number.Goals.{else-loop-k-test, then-loop-k-test+then-best-start}
 
@@ -12,6 +12,9 @@ returns-then-end-start c = start-past c.args.p.usable _ c.capacity-end.ensures c
 
 pub block-requires : goal.block-requires
 block-requires c = omega (arith, count_most c.args.p.usable)
+
+pub loop-k-init : goal.loop-k-init
+loop-k-init c = best-first _ _ _
 
 pub loop-k-preserved : goal.loop-k-preserved
 loop-k-preserved c = best-next _ _ _ _ _ c.loop-k.invariant c.loop-k.auto.k _ c.block.ensures _ c.lower-best.ensures
