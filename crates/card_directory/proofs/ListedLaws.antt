@@ -37,6 +37,9 @@ module _ (directory : List (List ℕ)) where
   later : {start i end n : ℕ} → i ≤ end → NextUsed directory start i n → NextUsed directory start end n
   later h u = record { from_start = u.from_start; before_end = omega (arith, u.before_end); is_used_lem = u.is_used_lem; skipped = u.skipped }
 
+  pub listed_start : (used : List ℕ) → Listed directory 0 used 0
+  listed_start used = record { long = omega arith; fits = omega arith; each = λ j h. absurd (omega arith); rest = λ k a b. absurd (omega arith) }
+
   -- ---- one entry more
 
   reached-before : (i : ℕ) {used : List ℕ} {count : ℕ} → Listed directory i used count → reached used count ≤ i

@@ -1,9 +1,12 @@
-use Rattle.std.proofs.Common.{◌≡◌, arith, sym, ap, ◌∙◌}
+use Rattle.std.proofs.Common.{◌≡◌, rules, arith, sym, ap, ◌∙◌}
 use lib.ListN.{length-set}
 use Rattle.words.proofs.KeptLaws.{one-at-most, stored-kept}
 use Rattle.card_model.specs.Entries.{is_used}
-use Rattle.card_directory.proofs.ListedLaws.{listed_pushed}
+use Rattle.card_directory.proofs.ListedLaws.{listed_start, listed_pushed}
 use Rattle.card_directory.proofs.used.list_used.Goals as goal
+
+pub loop-i-init : goal.loop-i-init
+loop-i-init c = record { long = search rules; room = omega arith; listed = listed_start _ _ }
 
 pub loop-i-preserved : goal.loop-i-preserved
 loop-i-preserved c =
