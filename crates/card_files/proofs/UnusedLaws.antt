@@ -1,10 +1,11 @@
 -- The lowest unused entry is the first number that the list of the used ones lacks. Assumes nothing.
-use Prim.Native.Nat.{ℕ, zero, suc, ◌≤◌, ◌<◌}
+use Prim.Native.Nat.{ℕ, zero, suc, ◌+◌, ◌≤◌, ◌<◌}
 use mathlib.Core.Path.{◌≡◌, refl, sym, ap, ◌∙◌}
 use mathlib.Core.Bool.{Bool, true, false, not, false≢true}
 use mathlib.Core.List.{List}
 use Rattle.std.specs.Prelude.{None, Some}
 use native.Mathlib.Omega.{arith}
+use native.Mathlib.Decide.{ℕ_discrete}
 use lib.Dec.{ltb}
 use lib.ListN.{length, get_or}
 use borrow.Author.Tests.{ltb-true, ltb-false}
@@ -17,6 +18,13 @@ use Rattle.card_updates.specs.Write.{lowest_unused}
 -- the first j numbers of the list are 0, 1, 2 and on
 abbrev pub Counts : List ℕ → ℕ → Type 0
 Counts used j = (i : ℕ) → i < j → get_or used i 0 ≡ i
+
+pub counts-next : (used : List ℕ) (j : ℕ) → Counts used j → get_or used j 0 ≡ j → Counts used (j + 1)
+counts-next used j c e i h = go (ℕ_discrete i j)
+  where
+    go : Dec (i ≡ j) → get_or used i 0 ≡ i
+    go (yes d) = rw d e
+    go (no d) = c i (omega (arith, d))
 
 counts-reach : (used : List ℕ) (j : ℕ) → Counts used j → reached used j ≡ j
 counts-reach used zero c = refl
