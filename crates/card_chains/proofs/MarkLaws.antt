@@ -1,7 +1,7 @@
 -- Laws of the marks: what the walk along an entry's file makes of the marks of the files before it. Assumes nothing.
-use Prim.Native.Nat.{ℕ, zero, suc, ◌+◌, ◌≤◌}
+use Prim.Native.Nat.{ℕ, zero, suc, ◌+◌, ◌-◌, ◌≤◌}
 use mathlib.Core.Path.{◌≡◌, refl, sym, ap, ◌∙◌}
-use mathlib.Core.Bool.{Bool, true, false, not, ◌&&◌, ◌||◌, or_comm, false≢true}
+use mathlib.Core.Bool.{Bool, true, false, not, ◌&&◌, ◌||◌, or_comm, and-true, false≢true}
 use mathlib.Core.List.{List, [], append-nil}
 use Rattle.std.specs.Prelude.{Option, None, Some}
 use native.Mathlib.Omega.{arith}
@@ -9,14 +9,16 @@ use native.Mathlib.Numerals.{add-one}
 use lib.Dec.{eqb}
 use lib.ListN.{get_or, replicate}
 use Rattle.words.specs.Lists.{any_of, has, is_some}
-use Rattle.words.proofs.JoinLaws.{any_append}
+use borrow.Author.Tests.{eq-eqb}
+use Rattle.words.proofs.JoinLaws.{any_append, all-has}
 use Rattle.words.proofs.Distinct.{count, one, count_next}
 use Rattle.card_model.specs.declared.Link.{Link}
 use Rattle.card_model.specs.Table.{link_at, free_or_damaged}
 use mir.Val.{bool_byte}
 use Rattle.card_model.specs.Entries.{is_used, entry_at}
-use Rattle.card_model.specs.Files.{chain_of, bad_chain, file_of, files_before, shares_block, is_orphan, orphans}
+use Rattle.card_model.specs.Files.{chain, chain_of, bad_chain, file_of, files_before, shares_block, is_orphan, orphans}
 use Rattle.card_model.proofs.EntryLaws.{file-chain, no_file, files-snoc}
+use Rattle.card_model.proofs.ChainLaws.{chain_head, chain-used}
 use Rattle.card_chains.specs.declared.walking.Finding.TheVariants.{Broken}
 use Rattle.card_chains.specs.Marks.{no_marks, is_marked, Lengths, Marking, MarkedFiles, outcome, answer, Walked}
 use Rattle.card_chains.proofs.SetLaws.{any_same}
@@ -132,7 +134,7 @@ count-snoc p k (suc n) =
     let e : suc k + n ≡ k + suc n = omega arith in
     omega (arith, count_next p k (suc n), count_next p k n, count-snoc p (suc k) n, ap (λ (i : ℕ). one (p i)) e)
 
-count_to-next : (p : ℕ → Bool) (b : ℕ) → count_to p (b + 1) ≡ count_to p b + one (p b)
+pub count_to-next : (p : ℕ → Bool) (b : ℕ) → count_to p (b + 1) ≡ count_to p b + one (p b)
 unfolding count_to
 count_to-next p b =
     let z : 0 + b ≡ b = omega arith in
@@ -174,3 +176,39 @@ module _ {table : List ℕ} {directory : List (List ℕ)} where
   pub counted_all : {count b : ℕ} → Counted table directory count b → b ≡ 200 → count ≡ orphans table directory
   unfolding orphans count_to
   counted_all c e = c.is_count ∙ rw e
+
+-- ---- the same as a difference: of the blocks in use, those that are marked
+
+-- the block is in use
+abbrev pub is_in_use : List ℕ → ℕ → Bool
+is_in_use table b = not (free_or_damaged (link_at table b))
+
+-- a marked block is
+in_use : {table marks : List ℕ} → Lengths table marks → (b : ℕ) → is_marked marks b ≡ true → is_in_use table b ≡ true
+in_use {table} {marks} l b m = go (chain table (get_or marks b 0) b) refl (l.each b m)
+  where
+    go : (o : Option (List ℕ)) → chain table (get_or marks b 0) b ≡ o → is_some o ≡ true → not (free_or_damaged (link_at table b)) ≡ true
+    go None e s = absurd (false≢true s)
+    go (Some bs) e s = rw (all-has (λ x. free_or_damaged (link_at table x) ≡ false) bs b (chain-used table _ b bs e) (rw (chain_head table _ b bs e, eq-eqb b b refl)))
+
+counts-add : (p q r : ℕ → Bool) → ((i : ℕ) → one (p i) + one (q i) ≡ one (r i)) → (k n : ℕ) → count p k n + count q k n ≡ count r k n
+counts-add p q r e k zero = refl
+counts-add p q r e k (suc n) = omega (arith, count_next p k n, count_next q k n, count_next r k n, counts-add p q r e (suc k) n, e k)
+
+orphans-left : (table : List ℕ) (directory : List (List ℕ)) {marks : List ℕ} → MarkedFiles table (files_before table directory 208) marks
+    → orphans table directory + count_to (is_marked marks) 200 ≡ count_to (is_in_use table) 200
+unfolding orphans count_to is_orphan
+orphans-left table directory {marks} f = counts-add (is_orphan table directory) (is_marked marks) (is_in_use table) each 0 200
+  where
+    each : (b : ℕ) → one (is_orphan table directory b) + one (is_marked marks b) ≡ one (is_in_use table b)
+    each b = rw (← f.are_of_blocks.exactly b) (go (is_marked marks b) refl)
+      where
+        go : (t : Bool) → is_marked marks b ≡ t → one (not (free_or_damaged (link_at table b)) && not t) + one t ≡ one (not (free_or_damaged (link_at table b)))
+        go true m = rw (in_use f.are_lengths b m)
+        go false m = rw (and-true (not (free_or_damaged (link_at table b)))) (omega arith)
+
+pub orphans-are : (table : List ℕ) (directory : List (List ℕ)) {marks : List ℕ} {used marked : ℕ} → MarkedFiles table (files_before table directory 208) marks
+    → used ≡ count_to (is_in_use table) 200 → marked ≡ count_to (is_marked marks) 200 → (marked ≤ used) × (used - marked ≡ orphans table directory)
+orphans-are table directory f u m =
+    let e = orphans-left table directory f in
+    (omega (arith, e, u, m), omega (arith, e, u, m))

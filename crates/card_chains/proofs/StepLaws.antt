@@ -23,11 +23,15 @@ after_next table b (suc steps) n h told =
     let p : suc steps - 1 ≡ steps = omega arith in
     rw (told, p)
 
--- where no block follows
-pub after_stop : (table : List ℕ) (b steps : ℕ) → ((n : ℕ) → link_at table b ≡ Next n → ⊥) → block_after table b steps ≡ b
+-- where a step leads to the block itself
+pub after_stop : (table : List ℕ) (b steps : ℕ) → step_from b (link_at table b) ≡ b → block_after table b steps ≡ b
 unfolding block_after
-after_stop table b zero none = refl
-after_stop table b (suc steps) none = rw (stays (link_at table b) none) (after_stop table b steps none)
+after_stop table b zero s = refl
+after_stop table b (suc steps) s = rw s (after_stop table b steps s)
+
+-- as where no block follows
+pub after_last : (table : List ℕ) (b steps : ℕ) → ((n : ℕ) → link_at table b ≡ Next n → ⊥) → block_after table b steps ≡ b
+after_last table b steps none = after_stop table b steps (stays (link_at table b) none)
   where
     stays : (l : Link) → ((n : ℕ) → l ≡ Next n → ⊥) → step_from b l ≡ b
     stays (Next n) none = absurd (none n refl)

@@ -25,7 +25,11 @@ pub step_below : (table : List ℕ) (b n : ℕ) (l : Link) → l ≡ link_at tab
 unfolding link_at
 step_below table b n l q told = next-below _ n (sym q ∙ told)
 
-chain-step : (table : List ℕ) (left b : ℕ) {l : Link} → (left ≡ 0 → ⊥) → link_at table b ≡ l
+pub chain-none : (table : List ℕ) (left b : ℕ) → left ≡ 0 → chain table left b ≡ None
+unfolding chain
+chain-none table left b q = rw q
+
+pub chain-step : (table : List ℕ) (left b : ℕ) {l : Link} → (left ≡ 0 → ⊥) → link_at table b ≡ l
     → chain table left b ≡ chain_step l b (left - 1) (λ n. chain table (left - 1) n)
 unfolding chain
 chain-step table zero b h told = absurd (h refl)
@@ -44,7 +48,7 @@ module _ (table : List ℕ) where
       go None e p = absurd (false≢true p)
       go (Some bs) e p = links-same table (chain-links table m b bs e) (chain-links table n b cs f)
 
-  walked-broken : {o : Option (List ℕ)} (marks marks' : List ℕ) → o ≡ None → Walked table o marks Broken marks'
+  pub walked-broken : {o : Option (List ℕ)} (marks marks' : List ℕ) → o ≡ None → Walked table o marks Broken marks'
   walked-broken marks marks' e = record {
     answers = rw e;
     are_lengths = λ s. absurd (false≢true (sym (ap is_some e) ∙ s));
@@ -52,8 +56,7 @@ module _ (table : List ℕ) where
   }
 
   pub walked_none : (marks : List ℕ) (b left : ℕ) → left ≡ 0 → Walked table (chain table left b) marks Broken marks
-  unfolding chain
-  walked_none marks b left q = walked-broken marks marks (rw q)
+  walked_none marks b left q = walked-broken marks marks (chain-none table left b q)
 
   -- at a block that is in no chain
   pub walked_stop : (marks marks' : List ℕ) (b left : ℕ) → (left ≡ 0 → ⊥) → (l : Link) → l ≡ link_at table b → (l ≡ Last → ⊥) → ((n : ℕ) → l ≡ Next n → ⊥)
@@ -67,6 +70,9 @@ module _ (table : List ℕ) where
       go Free q no-last no-next = chain-step table left b h q
       go Damaged q no-last no-next = chain-step table left b h q
       go Bad q no-last no-next = chain-step table left b h q
+
+  pub walkable-start : (marks : List ℕ) (left b : ℕ) → Lengths table marks → Walkable table marks left b
+  walkable-start marks left b l = record { many = l.long; up_to_left = λ x e h. l.each x e; all_if_good = λ s. l }
 
   -- at block b, with `left` blocks left
   module _ (marks : List ℕ) (b left : ℕ) (k : Walkable table marks left b) where

@@ -59,7 +59,7 @@ pub(crate) fn walk(card: &[u8; LENGTH], marks: &mut [u8; 200], block: usize, lef
 }
 
 // The block that `left` steps over the table lead to.
-#[tactic(auto, using(crate::proofs::StepLaws::after_none, crate::proofs::StepLaws::after_next, crate::proofs::StepLaws::after_stop, crate::proofs::WalkLaws::step_below))]
+#[tactic(auto, using(crate::proofs::StepLaws::after_none, crate::proofs::StepLaws::after_next, crate::proofs::StepLaws::after_last, crate::proofs::WalkLaws::step_below))]
 pub fn block_after(card: &[u8; LENGTH], block: usize, left: usize) -> usize
     requires { block < 200 }
     ensures { (result ≡ block_after (table_of card.now) block left) × (result < 200) }

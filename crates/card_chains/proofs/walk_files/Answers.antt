@@ -1,5 +1,6 @@
 use Rattle.std.proofs.Common.{rules}
 use Rattle.card_chains.proofs.PassLaws.{passed_none, walk_bounds, bad_refused, passed_shared, passed_apart, shared_refused, none_refused, all_marked}
+use Rattle.card_chains.proofs.WalkLaws.{walkable-start}
 use Rattle.card_chains.proofs.walk_files.Goals as goal
 use Rattle.card_chains.proofs.walk_files.Goals.{in-Shared, in-Apart}
 
@@ -8,6 +9,9 @@ loop-i-init c = passed_none c.requires.unmarked
 
 pub walk-requires-clause-block_bound : goal.walk-requires-clause-block_bound
 walk-requires-clause-block_bound c = search (rules, walk_bounds)
+
+pub walk-requires-clause-walkable : goal.walk-requires-clause-walkable
+walk-requires-clause-walkable c = walkable-start _ _ _ _ c.loop-i.invariant.are_lengths
 
 pub returns-in-Broken-clause-value : goal.returns-in-Broken-clause-value
 returns-in-Broken-clause-value c = rw c.at.ensures (search (rules, bad_refused))
