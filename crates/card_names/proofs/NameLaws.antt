@@ -9,7 +9,7 @@ use native.Mathlib.Decide.{ℕ_discrete}
 use native.Mathlib.Numerals.{add-one}
 use lib.Dec.{ltb}
 use lib.ListN.{get_or, set, replicate, length-replicate, get_or-replicate, length-set}
-use lib.Seq.{get_or-set_same, get_or-set_other}
+use lib.Seq.{get_or-set_same, get_or-set_other, set-get_or}
 use borrow.Author.Tests.{ltb-true, ltb-false}
 use Rattle.words.specs.Words.{same_bytes}
 use Rattle.words.proofs.Bools.{and-true-left, and-true-right}
@@ -21,6 +21,21 @@ use Rattle.card_directory.specs.Listed.{reached, Listed}
 use Rattle.card_directory.proofs.DirectoryLaws.{unused-name, used-name}
 use Rattle.card_directory.proofs.ListedLaws.{listed-used, listed-index, listed-rises}
 use Rattle.card_names.specs.Slots.{slot_of, name_at, slot_at, up_to, before, LastOf, Chained, Slots}
+
+-- ---- where nothing is stored from n on, a store of 0 changes nothing (`name_row` stores each link all the same)
+
+pub record NoneFrom (next : List ℕ) (n : ℕ) : Type 0 where
+  pub none_at : (k : ℕ) → n ≤ k → k < 208 → get_or next k 0 ≡ 0
+
+pub none-start : NoneFrom (replicate 208 0) 0
+none-start = record { none_at = λ k a b. get_or-replicate {A = ℕ} 208 k 0 0 b }
+
+module _ {next : List ℕ} {j : ℕ} (z : NoneFrom next j) (k : ℕ) where
+  pub none-next : NoneFrom (set next j k) (j + 1)
+  none-next = record { none_at = λ x a b. get_or-set_other next j x k 0 (λ e. omega arith) ∙ z.none_at x (omega arith) b }
+
+  pub unstored : j < 208 → k ≡ 0 → next ≡ set next j k
+  unstored b e = sym (ap (set next j) (e ∙ sym (z.none_at j (omega arith) b)) ∙ set-get_or next j 0)
 
 -- ---- names
 
@@ -38,6 +53,12 @@ is_named_lem name e u n = rw u (eq-same (name_of e) name n)
 
 pub unused-free : (directory : List (List ℕ)) (i : ℕ) → is_used (entry_at directory i) ≡ false → name_taken directory i ≡ false
 unused-free directory i u = unused-name directory i (entry_at directory i) refl u
+
+pub last-of-none : {A : Type 0} {f : ℕ → A} {x : A} {n : ℕ} → n ≡ 0 → LastOf f x n None
+last-of-none z = record { within = omega arith; own = λ j q. absurd (none-some q); others = λ j a b. absurd (omega arith) }
+  where
+    none-some : {j : ℕ} → ◌≡◌ {A = Option ℕ} None (Some j) → ⊥
+    none-some q = cc
 
 -- ---- a byte of the tables, and what `checked_sub(1)` reads from it
 
@@ -61,14 +82,13 @@ module _ (directory : List (List ℕ)) (used : List ℕ) where
     slots_many = length-replicate {A = ℕ} 2048 0;
     next_many = length-replicate {A = ℕ} 208 0;
     chains = record { back = λ j h. absurd (omega arith) };
-    newest = λ s h. rw (get_or-replicate {A = ℕ} 2048 s 0 0 h)
-        (record { within = omega arith; own = λ j q. absurd (none-some q); others = λ j a b. absurd (omega arith) });
+    newest = λ s h. rw (get_or-replicate {A = ℕ} 2048 s 0 0 h) (last-of-none refl);
   }
-    where
-      none-some : {j : ℕ} → ◌≡◌ {A = Option ℕ} None (Some j) → ⊥
-      none-some q = cc
 
   module _ (next : List ℕ) where
+    pub chained-to : {k n : ℕ} → k ≤ n → Chained directory used next n → Chained directory used next k
+    chained-to h c = record { back = λ j b. c.back j (omega arith) }
+
     -- name j is entered
     pub slots_next : {slots : List ℕ} {j s k : ℕ} → Slots directory used slots next j → j < 208 → s ≡ slot j → s < 2048 → k ≡ get_or slots s 0
         → Slots directory used (set slots s (j + 1)) (set next j k) (j + 1)
@@ -108,6 +128,9 @@ module _ (directory : List (List ℕ)) (used : List ℕ) where
       pub own : (j : ℕ) → at ≡ Some j → slot j ≡ slot_of x
       pub others : (j : ℕ) → up_to at ≤ j → j < n → name j ≡ x → ⊥
 
+    pub sought-start : {at : Option ℕ} → n ≡ up_to at → ((j : ℕ) → at ≡ Some j → slot j ≡ slot_of x) → Sought at
+    sought-start e o = record { within = omega (arith, e); own = o; others = λ j a b. absurd (omega (arith, e)) }
+
     pub sought-none : Sought None → LastOf name x n None
     sought-none s = record { within = omega arith; own = λ j q. absurd (let z : ⊥ = cc in z); others = s.others }
 
@@ -140,7 +163,7 @@ module _ (directory : List (List ℕ)) (used : List ℕ) where
   module _ {count : ℕ} (l : Listed directory 208 used count) where
     -- number j is entry i, whose name was sought among those before it
     module _ (j i : ℕ) (e : i ≡ get_or used j 0) (h : j < count) where
-      name_free : LastOf name (name_of (entry_at directory i)) j None → name_taken directory i ≡ false
+      pub name_free : LastOf name (name_of (entry_at directory i)) j None → name_taken directory i ≡ false
       name_free f = used-name directory i (entry_at directory i) refl (listed-used l j i e h) None (lowest-nothing test 0 i other)
         where
           test : ℕ → Bool
@@ -156,7 +179,7 @@ module _ (directory : List (List ℕ)) (used : List ℕ) where
                   let apart : x.index ≡ j → ⊥ = λ d. omega (arith, x.is, ap (λ (y : ℕ). get_or used y 0) d) in
                   absurd (f.others x.index (omega arith) (omega (arith, x.low, apart)) (rw (← x.is) (named-name _ (entry_at directory k) q)))
 
-      name-taken : {k : ℕ} → LastOf name (name_of (entry_at directory i)) j (Some k) → name_taken directory i ≡ true
+      pub name-taken : {k : ℕ} → LastOf name (name_of (entry_at directory i)) j (Some k) → name_taken directory i ≡ true
       unfolding name_taken
       name-taken {k} f =
           let w = f.within in

@@ -7,7 +7,7 @@ use Rattle.card_model.specs.Layout.{directory_of}
 use Rattle.card_model.specs.Entries.{name_of, entry_at, name_taken, name_row}
 use Rattle.card_directory.proofs.ListedLaws.{first_from, found_here, found-later, found_none}
 use Rattle.card_names.specs.Slots.{slot_of}
-use Rattle.card_names.proofs.NameLaws.{unused-free, before-read, slots-start, slots_next, taken-found}
+use Rattle.card_names.proofs.NameLaws.{unused-free, before-read, chained-to, slots-start, slots_next, taken-found}
 use Rattle.card_names.proofs.name_row.Goals as goal
 
 pub loop-j-init : goal.loop-j-init
@@ -16,8 +16,7 @@ loop-j-init c = record { slots = slots-start _ _; passed = refl }
 pub find_back-requires-clause-chained : goal.find_back-requires-clause-chained
 find_back-requires-clause-chained c =
     let newest = rw (before-read _ _ c.checked_sub.ensures) at (c.loop-j.invariant.slots.newest _ c.slot_of-slot.ensures.1) in
-    let within = newest.within in
-    record { back = λ k h. c.loop-j.invariant.slots.chains.back k (omega arith) }
+    chained-to _ _ _ newest.within c.loop-j.invariant.slots.chains
 
 pub returns-then-is_some : goal.returns-then-is_some
 unfolding name_row first_from
