@@ -24,12 +24,18 @@ use Rattle.card_model.specs.Table.{fat_entry, magic_row}
 use Rattle.card_model.proofs.TableLaws.{fat-is}
 
 -- of an entry's two bytes, as a part
-pub entry_word : (card : List ℕ) (b at : ℕ) → b < 256 → at ≡ fat_place b → word (take 2 (drop at card)) 0 ≡ fat_entry (table_of card) b
+pub part-word : (card : List ℕ) (at : ℕ) → word (take (at + 2 - at) (drop at card)) 0 ≡ word card at
 unfolding word
-entry_word card b at h e =
+part-word card at =
+    let e : at + 2 - at ≡ 2 = omega arith in
     let z : at + 0 ≡ at = omega arith in
-    rw (get_or-take 2 (drop at card) 0 0 (omega arith), get_or-take 2 (drop at card) (0 + 1) 0 (omega arith), get_or-drop at card 0 0, get_or-drop at card (0 + 1) 0, z)
-    (ap (word card) e ∙ sym (fat-is card b h))
+    rw e
+    (rw (get_or-take 2 (drop at card) 0 0 (omega arith), get_or-take 2 (drop at card) (0 + 1) 0 (omega arith), get_or-drop at card 0 0, get_or-drop at card (0 + 1) 0, z))
+
+pub entry_word : (card : List ℕ) (b at : ℕ) → b < 256 → at ≡ fat_place b → word (take 2 (drop at card)) 0 ≡ fat_entry (table_of card) b
+entry_word card b at h e =
+    let two : at + 2 - at ≡ 2 = omega arith in
+    rw two at (part-word card at) ∙ ap (word card) e ∙ sym (fat-is card b h)
 
 -- the blocks of a range that the tests of a row pass
 abbrev pub NoneWrong : (ℕ → Bool) → ℕ → ℕ → Type 0
