@@ -26,10 +26,10 @@ use Rattle.card_check.specs.Opening.{OpenCard}
 
 -- where row v and those behind it decide: v's refusal is the verdict, and else the later rows are
 module _ (v later : Verdict) {whole : Verdict} (from : unless_refused v later ≡ whole) where
-  refuses : (e : CardError) → error_verdict e ≡ v → error_verdict e ≡ whole
+  pub refuses : (e : CardError) → error_verdict e ≡ v → error_verdict e ≡ whole
   refuses e q = sym (error_first e v later q) ∙ from
 
-  passes : done ≡ v → later ≡ whole
+  pub passes : done ≡ v → later ≡ whole
   passes q = sym (passed_first v later q) ∙ from
 
 pub wrong_length : (card : List ℕ) → length card ≢ 131072 → refused_at 20 Whole ≡ verdict_of card
@@ -47,12 +47,12 @@ abbrev from_26 : List ℕ → Verdict
 from_26 s = unless_refused (entry_row (directory_of s)) (from_27 s)
 
 -- 27 and 28 as one
-rows-26 : (table : List ℕ) (directory : List (List ℕ))
+pub rows-26 : (table : List ℕ) (directory : List (List ℕ))
     → directory_rows table directory ≡ unless_refused (entry_row directory) (unless_refused (chain_rows table directory) (unless_refused (name_row directory) (game_row table directory)))
 unfolding directory_rows
 rows-26 table directory = ap (unless_refused (entry_row directory)) (sym (rows-joined (chain_row table directory) (sharing_row table directory) _))
 
-right-length : (card : List ℕ) → length card ≡ card_length → unless_refused (table_rows (root_of card) (table_of card)) (directory_rows (table_of card) (directory_of card)) ≡ verdict_of card
+pub right-length : (card : List ℕ) → length card ≡ card_length → unless_refused (table_rows (root_of card) (table_of card)) (directory_rows (table_of card) (directory_of card)) ≡ verdict_of card
 unfolding verdict_of length_row
 right-length card e = rw (eq-eqb (length card) card_length e)
 

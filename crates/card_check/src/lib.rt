@@ -1,7 +1,7 @@
 #![tactic(auto)]
 
 // Opening a card: every call begins with it, and the rows 20 to 30 are put together here and nowhere else.
-ghost use Rattle.std.specs.Prelude.{◌≡◌, IfOk};
+ghost use Rattle.std.specs.Prelude.{◌≡◌, replicate, IfOk};
 ghost use Rattle.verdicts.specs.Rows.{result_verdict};
 ghost use Rattle.card_model.specs.Layout.{directory_of};
 ghost use Rattle.card_model.specs.Calls.{verdict_of, entry_named};
@@ -28,7 +28,7 @@ pub struct Lists {
 impl Lists {
     #[tactic(auto, unfolding(card_chains::specs::Marks::no_marks))]
     pub fn new() -> Lists
-        ensures { result.marks ≡ no_marks }
+        ensures { (result.used ≡ replicate 208 0) × (result.marks ≡ no_marks) }
     {
         Lists {
             used: [0; 208],
