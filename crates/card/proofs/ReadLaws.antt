@@ -46,7 +46,7 @@ module _ (card name : List ℕ) (index : ℕ) (buffer : List ℕ) where
   kept_by_check e q = read_kept e (by_check e q)
 
   module _ (v : done ≡ verdict_of card) where
-    past-check : read_verdict card name index buffer ≡ read_rows (directory_of card) name index buffer
+    pub past-check : read_verdict card name index buffer ≡ read_rows (directory_of card) name index buffer
     unfolding read_verdict
     past-check = passed_first _ _ v
 

@@ -37,7 +37,7 @@ module _ (card : List ℕ) (flag : ℕ) (name time content : List ℕ) (offset :
   kept_by_check e q = write_kept e (by_check e q)
 
   module _ (v : done ≡ verdict_of card) where
-    past-check : write_verdict card f offset ≡ write_rows (table_of card) (directory_of card) f offset
+    pub past-check : write_verdict card f offset ≡ write_rows (table_of card) (directory_of card) f offset
     unfolding write_verdict
     past-check = passed_first _ _ v
 
@@ -80,7 +80,7 @@ module _ (card : List ℕ) (flag : ℕ) (name time content : List ℕ) (offset :
           pub passed : PassedRows card f offset
           passed = passed-rows card f offset (sym write_done)
 
-          taken-are : take size free ≡ taken_blocks card f
+          pub taken-are : take size free ≡ taken_blocks card f
           unfolding taken_blocks
           taken-are = rw (l, q, sized)
 
