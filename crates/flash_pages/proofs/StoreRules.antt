@@ -63,6 +63,7 @@ module _ {image : List ℕ} {log : OpenedLog} (u : Usable image log) where
   pub record Appends : Type 0 where
     pub has_room : log.used + 1 ≤ capacity log.m.size
     pub next_free : allocated image (log.used + 1) ≡ false
+    pub block_is : append_block image ≡ Some (log.used + 1)
     pub written : (n : ℕ) (page : List ℕ) → appended image (log.used + 1) (new_block n page) ≡ page_written image n page
 
   pub appends : {can : Bool} → can ≡ can_append (append_block image) → can ≡ true → Appends
@@ -75,7 +76,7 @@ module _ {image : List ℕ} {log : OpenedLog} (u : Usable image log) where
           let b = append-blank image k q in
           let d : k ≡ log.used + 1 = blank-used image u.is_sound k b ∙ ap suc (sym u.used_is) ∙ sym (add-one log.used) in
           let h : log.used + 1 ≤ capacity log.m.size = omega (arith, d, b.high, ap capacity u.has_size) in
-          record { has_room = h; next_free = free-behind (log.used + 1) (add-one log.used) h; written = λ n page. rw (q, d) }
+          record { has_room = h; next_free = free-behind (log.used + 1) (add-one log.used) h; block_is = q ∙ ap (λ (i : ℕ). Some i) d; written = λ n page. rw (q, d) }
 
   pub written-compact : {can : Bool} → can ≡ can_append (append_block image) → can ≡ false → (n : ℕ) (page : List ℕ)
       → compacted image (other_holders image n ++ new_block n page ∷ []) ≡ page_written image n page
