@@ -17,10 +17,20 @@ use Rattle.flash_model.proofs.ClaimLaws.{free-most, claim-rows, first_save, seco
 use Rattle.flash_partition.specs.declared.opened.OpenedLog.{OpenedLog}
 use Rattle.slots.specs.SlotUsable.{SlotUsable}
 use Rattle.slots.specs.SlotAnswers.{searched_of, claimed_image}
-use Rattle.slots.specs.declared.searches.Searched.TheVariants.{Free}
+use Rattle.slots.specs.declared.searches.Searched.TheVariants.{Has, Free, Full}
 
--- a search that tells a free slot found none with the product number
-told_free : (has free : Option ℕ) {slot : ℕ} → Free slot ≡ searched_of has free → (has ≡ None) × (free ≡ Some slot)
+-- what a search tells of the slot with the product number and of the free one
+pub told-has : (has free : Option ℕ) {slot : ℕ} → Has slot ≡ searched_of has free → has ≡ Some slot
+told-has (Some k) free {slot} e = let q : slot ≡ k = cc in ap (λ (n : ℕ). Some n) (sym q)
+told-has None (Some k) e = let z : ◌≡◌ {A = ℕ} 0 1 = cc in absurd (omega arith)
+told-has None None e = let z : ◌≡◌ {A = ℕ} 0 1 = cc in absurd (omega arith)
+
+pub told-full : (has free : Option ℕ) → Full ≡ searched_of has free → (has ≡ None) × (free ≡ None)
+told-full (Some k) free e = let z : ◌≡◌ {A = ℕ} 0 1 = cc in absurd (omega arith)
+told-full None (Some k) e = let z : ◌≡◌ {A = ℕ} 0 1 = cc in absurd (omega arith)
+told-full None None e = (refl, refl)
+
+pub told_free : (has free : Option ℕ) {slot : ℕ} → Free slot ≡ searched_of has free → (has ≡ None) × (free ≡ Some slot)
 told_free (Some k) free e = let z : ◌≡◌ {A = ℕ} 0 1 = cc in absurd (omega arith)
 told_free None (Some k) {slot} e = let r : slot ≡ k = cc in (refl, ap (λ (n : ℕ). Some n) (sym r))
 told_free None None e = let z : ◌≡◌ {A = ℕ} 0 1 = cc in absurd (omega arith)
@@ -61,7 +71,7 @@ module _ {image one other : List ℕ} {slot : ℕ} (c : Claims image one other s
       let open-3 = open-slot image 3 (record { size_is = c.size_is; unrefused_1_5 = c.unrefused; named = refl }) in
       rw (open-3, eq-eqb (length one) 60 c.one_60, eq-eqb (length other) 60 c.other_60, c.right, c.none_has, c.is_free)
 
-  first-left : FirstDone image 3 one other slot
+  pub first-left : FirstDone image 3 one other slot
   first-left = first-saved image 3 one other slot (claim-rows image 3 one other accepted) slot_99
 
   -- the first save, and the image that is opened again behind it

@@ -11,7 +11,7 @@ use borrow.Author.Tests.{le-leb, lt-leb}
 use Rattle.words.specs.Lists.{is_some}
 use Rattle.words.specs.Search.{lowest}
 use Rattle.words.specs.Words.{same_bytes}
-use Rattle.words.proofs.SearchLaws.{lowest-is, lowest-nothing}
+use Rattle.words.proofs.SearchLaws.{lowest-some, lowest-none, lowest-is, lowest-nothing}
 use Rattle.words.proofs.LoopLaws.{lowest-here, lowest-next, lowest-end}
 use Rattle.flash_model.specs.Slots.{slot_count, slot_header, right_header, product_of, is_right, valid_slot, has_product, product_slot, free_slot, lowest_valid, or_else}
 use Rattle.flash_model.proofs.ClaimLaws.{slot-count}
@@ -113,6 +113,25 @@ apart {start} k f (yes h) = rw (le-leb start k h) (f h)
 apart {start} k f (no h) = rw (lt-leb start k (omega (arith, h)))
 
 module _ (image : List ℕ) where
+  -- from the start on, every slot counts
+  pub from_start : (start : ℕ) → lowest_valid image start ≡ lowest (valid_slot image) start (slot_count - start)
+  unfolding lowest_valid
+  from_start start = go (lowest (valid_slot image) start (slot_count - start)) refl
+    where
+      go : (o : Option ℕ) → lowest (valid_slot image) start (slot_count - start) ≡ o
+          → lowest (λ k. leb start k && valid_slot image k) 0 slot_count ≡ lowest (valid_slot image) start (slot_count - start)
+      go (Some i) q =
+          let w = lowest-some (valid_slot image) start (slot_count - start) i q in
+          lowest-is (λ k. leb start k && valid_slot image k) 0 slot_count i (record {
+            low = omega arith;
+            high = omega (arith, w.high, w.low);
+            passes = rw (le-leb start i w.low) w.passes;
+            none_below = λ k a b. apart k (λ h. w.none_below k h b) (dec_le start k);
+          }) ∙ sym q
+      go None q =
+          lowest-nothing (λ k. leb start k && valid_slot image k) 0 slot_count
+          (λ k a b. apart k (λ h. lowest-none (valid_slot image) start (slot_count - start) q k h (omega (arith, h, b))) (dec_le start k)) ∙ sym q
+
   -- the slot has a product number that counts
   abbrev pub has_number : ℕ → Bool
   has_number k = is_some (slot_product image k)
@@ -131,13 +150,13 @@ module _ (image : List ℕ) where
 
   pub lowest_found : (start : ℕ) (r : Option ℕ) → MatchOption r ((k : ℕ) → start ≤ k → k < 100 → has_number k ≡ false)
       (λ i. (start ≤ i) × (i < 100) × (has_number i ≡ true) × ((k : ℕ) → start ≤ k → k < i → has_number k ≡ false)) → lowest_valid image start ≡ r
-  unfolding lowest_valid
   lowest_found start None none =
-      lowest-nothing (λ k. leb start k && valid_slot image k) 0 slot_count (λ k a b. apart k (λ h. sym (number_valid k) ∙ none k h (omega (arith, b, slot-count))) (dec_le start k))
+      from_start start ∙ lowest-nothing (valid_slot image) start (slot_count - start) (λ k a b. sym (number_valid k) ∙ none k a (omega (arith, b, slot-count)))
   lowest_found start (Some i) w =
-      lowest-is (λ k. leb start k && valid_slot image k) 0 slot_count i (record {
-        low = omega arith;
-        high = omega (arith, w.1, slot-count);
-        passes = rw (le-leb start i w.0) (sym (number_valid i) ∙ w.2);
-        none_below = λ k a b. apart k (λ h. sym (number_valid k) ∙ w.3 k h b) (dec_le start k);
+      from_start start
+      ∙ lowest-is (valid_slot image) start (slot_count - start) i (record {
+        low = w.0;
+        high = omega (arith, w.0, w.1, slot-count);
+        passes = sym (number_valid i) ∙ w.2;
+        none_below = λ k a b. sym (number_valid k) ∙ w.3 k a b;
       })
