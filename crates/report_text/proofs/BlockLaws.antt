@@ -88,18 +88,18 @@ module _ (image : List ℕ) (sound : Sound image) (from : ℕ) where
 abbrev asked : ℕ → ℕ → Call
 asked partition from = on_whole (next_live partition from)
 
-module _ {image : List ℕ} {partition from : ℕ} (passed : refusal image partition ≡ 0) (n : ℕ) (a : Answered image (asked partition from) image (number_answer (Ok n) [])) where
-  lowest_is : lowest_live image from ≡ Some n
-  lowest_is = go (lowest_live image from) (accepted-values image (asked partition from) image (number_answer (Ok n) []) a refl)
-    where
-      go : (o : Option ℕ) → n ∷ [] ≡ to_list o → o ≡ Some n
-      go None v = cc
-      go (Some m) v = cc
+pub lowest_is : {image : List ℕ} {partition from : ℕ} (n : ℕ) → Answered image (asked partition from) image (number_answer (Ok n) []) → lowest_live image from ≡ Some n
+lowest_is {image} {partition} {from} n a = go (lowest_live image from) (accepted-values image (asked partition from) image (number_answer (Ok n) []) a refl)
+  where
+    go : (o : Option ℕ) → n ∷ [] ≡ to_list o → o ≡ Some n
+    go None v = cc
+    go (Some m) v = cc
 
+module _ {image : List ℕ} {partition from : ℕ} (passed : refusal image partition ≡ 0) (n : ℕ) (a : Answered image (asked partition from) image (number_answer (Ok n) [])) where
   pub number_low : (from ≤ n) × ((n < capacity (length image)) × (n < 65535))
   number_low =
       let sound = unrefused-sound image partition passed in
-      let l = live-low image sound from n lowest_is in
+      let l = live-low image sound from n (lowest_is n a) in
       let m = measures-of (length image) ((meanings.sound_means image).0 sound).legal_size_lem in
       (l.0, (l.1, omega (arith, l.1, m.two_bytes)))
 
@@ -107,13 +107,13 @@ module _ {image : List ℕ} {partition from : ℕ} (passed : refusal image parti
     pub line_put : (text ++ line block_word n) ++ lines_from image (n + 1) ≡ whole
     line_put =
         append_assoc text (line block_word n) (lines_from image (n + 1))
-        ∙ rw (← (lines_next image (unrefused-sound image partition passed) from n lowest_is)) put
+        ∙ rw (← (lines_next image (unrefused-sound image partition passed) from n (lowest_is n a))) put
 
     pub line_fits : length text + length (line block_word n) ≤ length whole
     line_fits = omega (arith, simp length-append at (ap length line_put))
 
 module _ {image : List ℕ} {partition from : ℕ} (passed : refusal image partition ≡ 0) (e : FlashError) (a : Answered image (asked partition from) image (number_answer (Err e) [])) where
-  no_number : lowest_live image from ≡ None
+  pub no_number : lowest_live image from ≡ None
   unfolding code_of
   no_number = go (lowest_live image from) refl
     where

@@ -1,6 +1,6 @@
 -- The text of a report, from what the report answers. Assumes nothing.
 use Prim.Native.Nat.{ℕ, ◌+◌, ◌<◌, ◌≤◌}
-use mathlib.Core.Path.{◌≡◌, refl, sym, ap}
+use mathlib.Core.Path.{◌≡◌, refl, sym, ap, ◌∙◌}
 use mathlib.Core.Bool.{Bool, true, false, cond}
 use mathlib.Core.List.{List, ◌++◌}
 use native.Mathlib.Omega.{arith}
@@ -40,26 +40,39 @@ report_short image = text-short image (partition_for (length image)) (partition-
 abbrev asked : ℕ → Call
 asked partition = on_whole (report partition)
 
-module _ {image : List ℕ} {partition : ℕ} (named : partition ≡ partition_for (length image)) where
-  pub refused_text : (e : FlashError) → Answered image (asked partition) image (report_answer (Err e)) → report_text image ≡ line refused_word (error_number e)
-  unfolding code_of text_for report_text
-  refused_text e a =
+named-text : (image : List ℕ) {partition : ℕ} → partition ≡ partition_for (length image) → text_for image partition ≡ report_text image
+unfolding report_text
+named-text image named = ap (text_for image) named
+
+module _ {image : List ℕ} {partition : ℕ} where
+  pub text_refused : (e : FlashError) → Answered image (asked partition) image (report_answer (Err e)) → text_for image partition ≡ line refused_word (error_number e)
+  unfolding code_of text_for
+  text_refused e a =
       let code : error_number e ≡ refusal image partition = answered-code image (asked partition) image (report_answer (Err e)) a in
-      rw (← named, ← code, error-refuses e)
+      rw (← code, error-refuses e)
 
   module _ (c : Counts) (a : Answered image (asked partition) image (report_answer (Ok c))) where
     pub counted_passed : refusal image partition ≡ 0
     unfolding code_of
     counted_passed = sym (answered-code image (asked partition) image (report_answer (Ok c)) a)
 
-    pub counted_text : report_text image ≡ head_lines partition c.version c.capacity c.used c.live ++ (block_lines image ++ end_line)
-    unfolding text_for report_text
-    counted_text =
+    pub text_counted : text_for image partition ≡ head_lines partition c.version c.capacity c.used c.live ++ (block_lines image ++ end_line)
+    unfolding text_for
+    text_counted =
         let v = accepted-values image (asked partition) image (report_answer (Ok c)) a refl in
-        rw (← named, counted_passed) (cc v)
+        rw counted_passed (cc v)
 
-    pub counted_room : length (head_lines partition c.version c.capacity c.used c.live) + (length (block_lines image) + 4) ≤ 12288
-    counted_room = omega (arith, report_short image, simp length-append at (ap length counted_text))
+  -- the partition is the one that the length names
+  module _ (named : partition ≡ partition_for (length image)) where
+    pub refused_text : (e : FlashError) → Answered image (asked partition) image (report_answer (Err e)) → report_text image ≡ line refused_word (error_number e)
+    refused_text e a = sym (named-text image named) ∙ text_refused e a
+
+    module _ (c : Counts) (a : Answered image (asked partition) image (report_answer (Ok c))) where
+      pub counted_text : report_text image ≡ head_lines partition c.version c.capacity c.used c.live ++ (block_lines image ++ end_line)
+      counted_text = sym (named-text image named) ∙ text_counted c a
+
+      pub counted_room : length (head_lines partition c.version c.capacity c.used c.live) + (length (block_lines image) + 4) ≤ 12288
+      counted_room = omega (arith, report_short image, simp length-append at (ap length counted_text))
 
 -- ---- longer than every partition
 

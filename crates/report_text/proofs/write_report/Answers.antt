@@ -7,7 +7,7 @@ pub put_head-requires : goal.put_head-requires
 put_head-requires c = grind (arith, common_steps, counted_room c.partition_for-partition.ensures _ c.in-Ok.ensures)
 
 pub put_blocks-requires-clause-sound : goal.put_blocks-requires-clause-sound
-put_blocks-requires-clause-sound c = counted_passed c.partition_for-partition.ensures _ c.in-Ok.ensures
+put_blocks-requires-clause-sound c = counted_passed _ c.in-Ok.ensures
 
 pub put_blocks-requires-clause-room : goal.put_blocks-requires-clause-room
 put_blocks-requires-clause-room c = grind (arith, common_steps, counted_room c.partition_for-partition.ensures _ c.in-Ok.ensures)

@@ -5,6 +5,6 @@ use Rattle.report_text.proofs.writing.+put_decimal.Goals.{then-n-ge10, else-n-ge
 
 pub extend_from_slice-requires : goal.extend_from_slice-requires
 extend_from_slice-requires t c = elim c.if-n-ge10.branch [
-  | then-n-ge10 w ↦ omega (arith, decimal_length c.args.n w.if-n-ge10.true c.ranges.n.fits, simp length-append at (ap length (w.text-is ∙ w.put_decimal.ensures)))
+  | then-n-ge10 w ↦ omega (arith, decimal_length c.args.n w.if-n-ge10.true, simp length-append at (ap length (w.text-is ∙ w.put_decimal.ensures)))
   | else-n-ge10 w ↦ omega (arith, ap length (decimal_digit c.args.n w.if-n-ge10.false), ap length w.text-is)
 ]
