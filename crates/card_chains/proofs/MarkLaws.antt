@@ -8,8 +8,8 @@ use native.Mathlib.Omega.{arith}
 use native.Mathlib.Numerals.{add-one}
 use lib.Dec.{eqb}
 use lib.ListN.{get_or, replicate}
-use Rattle.words.specs.Lists.{any_of, has, is_some}
 use borrow.Author.Tests.{eq-eqb}
+use Rattle.words.specs.Lists.{any_of, has, is_some}
 use Rattle.words.proofs.JoinLaws.{any_append, all-has}
 use Rattle.words.proofs.Distinct.{count, one, count_next}
 use Rattle.card_model.specs.declared.Link.{Link}

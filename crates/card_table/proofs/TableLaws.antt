@@ -23,7 +23,7 @@ use Rattle.card_model.specs.Layout.{fat_place, table_of}
 use Rattle.card_model.specs.Table.{fat_entry, magic_row}
 use Rattle.card_model.proofs.TableLaws.{fat-is}
 
--- of an entry's two bytes, as a part
+-- of two bytes of the card, as a part
 pub part-word : (card : List ℕ) (at : ℕ) → word (take (at + 2 - at) (drop at card)) 0 ≡ word card at
 unfolding word
 part-word card at =
@@ -32,6 +32,7 @@ part-word card at =
     rw e
     (rw (get_or-take 2 (drop at card) 0 0 (omega arith), get_or-take 2 (drop at card) (0 + 1) 0 (omega arith), get_or-drop at card 0 0, get_or-drop at card (0 + 1) 0, z))
 
+-- of an entry's
 pub entry_word : (card : List ℕ) (b at : ℕ) → b < 256 → at ≡ fat_place b → word (take 2 (drop at card)) 0 ≡ fat_entry (table_of card) b
 entry_word card b at h e =
     let two : at + 2 - at ≡ 2 = omega arith in
